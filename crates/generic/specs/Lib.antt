@@ -1,0 +1,4 @@
+pub mod Divisors
+pub mod Exact
+pub mod Refusals
+pub mod Signed

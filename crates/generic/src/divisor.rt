@@ -1,0 +1,16 @@
+// The greatest common divisor.
+ghost use Rattle.generic.specs.Divisors.{GreatestDivisor};
+use crate::integer::GenericInteger;
+
+// Euclid's algorithm.
+pub fn gcd<T: GenericInteger>(a: T, b: T) -> T
+    ensures { λ r. ⌜ GreatestDivisor (T·CountingNumber .number r) (T·CountingNumber .number a) (T·CountingNumber .number b) ⌝ }
+{
+    let mut x = a;
+    let mut y = b;
+    while let Some((_, rest)) = x.div_rem(y) {
+        x = y;
+        y = rest;
+    }
+    x
+}

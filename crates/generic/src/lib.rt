@@ -1,0 +1,6 @@
+// Whole numbers of several types, each with a greatest of its own, and what is worked out once for all of them.
+pub mod conversion;
+pub mod counting;
+pub mod divisor;
+pub mod integer;
+pub mod sign;
