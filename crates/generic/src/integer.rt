@@ -3,9 +3,6 @@ ghost use mathlib.Core.Path.{_≡_};
 ghost use Prim.Native.Nat.{ℕ, _+_, _-_, _*_, _/_, _%_, _^_, _≤_, _<_};
 ghost use Rattle.generic.specs.Exact.{Exactly, Divided};
 use crate::counting::CountingNumber;
-use crate::counting::U16CountingNumber;
-use crate::counting::U32CountingNumber;
-use crate::counting::U64CountingNumber;
 
 pub trait GenericInteger: CountingNumber {
     // Every word has a place.
@@ -36,106 +33,4 @@ pub trait GenericInteger: CountingNumber {
     // None exactly when the number is above 255.
     fn to_u8(self) -> Option<u8>
         ensures { λ r. ⌜ Exactly (λ b. b) r (Self·CountingNumber .number self ≤ 255) (Self·CountingNumber .number self) ⌝ };
-}
-
-pub impl GenericInteger for u16 as U16GenericInteger {
-    fn ten() -> u16 {
-        10
-    }
-
-    fn from_u16(word: u16) -> u16 {
-        word
-    }
-
-    fn checked_sub(self, other: u16) -> Option<u16> {
-        u16::checked_sub(self, other)
-    }
-
-    fn checked_mul(self, other: u16) -> Option<u16> {
-        u16::checked_mul(self, other)
-    }
-
-    fn checked_div(self, by: u16) -> Option<u16> {
-        u16::checked_div(self, by)
-    }
-
-    fn div_rem(self, by: u16) -> Option<(u16, u16)> {
-        if by == 0 {
-            None
-        } else {
-            Some((self / by, self % by))
-        }
-    }
-
-    fn to_u8(self) -> Option<u8> {
-        u8::try_from(self).ok()
-    }
-}
-
-pub impl GenericInteger for u32 as U32GenericInteger {
-    fn ten() -> u32 {
-        10
-    }
-
-    fn from_u16(word: u16) -> u32 {
-        u32::from(word)
-    }
-
-    fn checked_sub(self, other: u32) -> Option<u32> {
-        u32::checked_sub(self, other)
-    }
-
-    fn checked_mul(self, other: u32) -> Option<u32> {
-        u32::checked_mul(self, other)
-    }
-
-    fn checked_div(self, by: u32) -> Option<u32> {
-        u32::checked_div(self, by)
-    }
-
-    fn div_rem(self, by: u32) -> Option<(u32, u32)> {
-        if by == 0 {
-            None
-        } else {
-            Some((self / by, self % by))
-        }
-    }
-
-    fn to_u8(self) -> Option<u8> {
-        u8::try_from(self).ok()
-    }
-}
-
-pub impl GenericInteger for u64 as U64GenericInteger {
-    fn ten() -> u64 {
-        10
-    }
-
-    fn from_u16(word: u16) -> u64 {
-        u64::from(word)
-    }
-
-    fn checked_sub(self, other: u64) -> Option<u64> {
-        u64::checked_sub(self, other)
-    }
-
-    fn checked_mul(self, other: u64) -> Option<u64> {
-        u64::checked_mul(self, other)
-    }
-
-    fn checked_div(self, by: u64) -> Option<u64> {
-        u64::checked_div(self, by)
-    }
-
-    fn div_rem(self, by: u64) -> Option<(u64, u64)> {
-        if by == 0 {
-            None
-        } else {
-            Some((self / by, self % by))
-        }
-    }
-
-    fn to_u8(self) -> Option<u8> {
-        u8::try_from(self).ok()
-    }
 }

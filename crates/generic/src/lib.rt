@@ -3,4 +3,8 @@ pub mod conversion;
 pub mod counting;
 pub mod divisor;
 pub mod integer;
+pub mod machine16;
+pub mod machine32;
+pub mod machine64;
+pub mod machine8;
 pub mod sign;

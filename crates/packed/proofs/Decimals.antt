@@ -13,21 +13,6 @@ use Rattle.std.specs.declared.cmp.Ordering.{Ordering}
 use Rattle.std.specs.declared.cmp.Ordering.the-variants.{Less, Equal, Greater}
 use Rattle.packed.specs.Digits.{nibble, AllDigits, decimal}
 
--- one digit more
-pub decimal-more : (k w : ℕ) → decimal (k + 1) w ≡ decimal k w + nibble w k * 10 ^ k
-unfolding decimal
-decimal-more k w = rw add-one
-
-pub ten-more : (k : ℕ) → 10 ^ (k + 1) ≡ 10 ^ k * 10
-ten-more k = rw (add-one, pow-suc)
-
-pub ten-mono : (j k : ℕ) → j ≤ k → 10 ^ j ≤ 10 ^ k
-ten-mono j k h = pow-le-pow-right {n = 10} (omega arith) {i = j} {j = k} h
-
--- a power of ten of a word with sixteen digits
-pub ten-le : (k : ℕ) → k < 16 → 10 ^ k ≤ 10 ^ 15
-ten-le k h = pow-le-pow-right {n = 10} (omega arith) {i = k} {j = 15} (omega arith)
-
 pub decimal-lt : (k w : ℕ) → AllDigits k w → decimal k w < 10 ^ k
 unfolding decimal
 decimal-lt zero w d = omega arith
@@ -45,14 +30,7 @@ decimal-same (suc k) v w e =
     let top : nibble v k ≡ nibble w k = e k (omega arith) in
     cc
 
--- a digit d put at place k of a word that ends below it
-pub nibble-top : (k w d : ℕ) → w < 2 ^ (4 * k) → d < 16 → nibble (w + d * 2 ^ (4 * k)) k ≡ d
-nibble-top k w d small digit =
-    let shifted : (d * 2 ^ (4 * k) + w) / 2 ^ (4 * k) ≡ d = div-mul-add d (2 ^ (4 * k)) w small in
-    let swapped : w + d * 2 ^ (4 * k) ≡ d * 2 ^ (4 * k) + w = omega arith in
-    rw (swapped, shifted) (omega arith)
-
--- and the digits below it stand
+-- what is put at place k leaves the digits below it
 pub nibble-low : (k w d i : ℕ) → i < k → nibble (w + d * 2 ^ (4 * k)) i ≡ nibble w i
 nibble-low k w d i below =
     let m : ℕ = k - suc i in
@@ -92,23 +70,6 @@ decimal-order (suc k) v w dv dw h =
       | inl less ↦ omega (arith, decimal-lt k v low-v, mul-le-mul-right (10 ^ k) less, add-mul (nibble v k) 1 (10 ^ k))
       | inr same ↦ omega (arith, decimal-order k v w low-v low-w (same .1), ap (λ n. n * 10 ^ k) (same .0))
     ]
-
--- After k digits of n: the word that holds them, and the rest that is still to be packed.
-abbrev pub Packs : ℕ → ℕ → ℕ → ℕ → Type 0
-Packs k w rest n = AllDigits k w × (w < 2 ^ (4 * k)) × (decimal k w + rest * 10 ^ k ≡ n)
-
-pub packs-more : (k w rest n : ℕ) → Packs k w rest n → Packs (k + 1) (w + rest % 10 * 2 ^ (4 * k)) (rest / 10) n
-packs-more k w rest n (digits, small, adds) =
-    let digit : rest % 10 ≤ 9 = omega arith in
-    let top : nibble (w + rest % 10 * 2 ^ (4 * k)) k ≡ rest % 10 = nibble-top k w (rest % 10) small (omega arith) in
-    let same : decimal k (w + rest % 10 * 2 ^ (4 * k)) ≡ decimal k w = decimal-same k (w + rest % 10 * 2 ^ (4 * k)) w (λ i h. nibble-low k w (rest % 10) i h) in
-    let high : 2 ^ (4 * (k + 1)) ≡ 2 ^ (4 * k) * 16 = ap (λ e. 2 ^ e) (omega arith) ∙ pow-add 2 (4 * k) 4 in
-    let whole : rest * 10 ^ k ≡ rest / 10 * (10 ^ k * 10) + rest % 10 * 10 ^ k =
-    ap (λ e. e * 10 ^ k) (sym (div-add-mod' rest 10)) ∙ add-mul (rest / 10 * 10) (rest % 10) (10 ^ k) ∙ ap (λ e. e + rest % 10 * 10 ^ k) (mul-assoc (rest / 10) 10 (10 ^ k) ∙ ap (λ e. rest / 10 * e) (mul-comm 10 (10 ^ k))) in (
-      below-more (λ i. nibble (w + rest % 10 * 2 ^ (4 * k)) i ≤ 9) k (λ i h. rw (nibble-low k w (rest % 10) i h) (digits i h)) (rw top digit),
-      omega (arith, high, mul-le-mul-right (2 ^ (4 * k)) digit),
-      rw (decimal-more, ten-more, same, top) (omega (arith, whole)),
-    )
 
 pub decimal-none : (w : ℕ) → decimal 0 w ≡ 0
 unfolding decimal

@@ -1,0 +1,74 @@
+// u64 as a counting number and as an integer for generic code.
+ghost use mathlib.Core.Path.{_≡_};
+ghost use Prim.Native.Nat.{min};
+use crate::counting::CountingNumber;
+use crate::integer::GenericInteger;
+use std::cmp::Ordering;
+
+pub impl CountingNumber for u64 as U64CountingNumber {
+    // The value itself: no value of the type passes the greatest.
+    ghost number = { λ x. min x 0xffff_ffff_ffff_ffff };
+
+    ghost greatest = { 0xffff_ffff_ffff_ffff };
+
+    fn zero() -> u64 {
+        0
+    }
+
+    fn one() -> u64 {
+        1
+    }
+
+    fn to_u64(self) -> u64
+        ensures meaning { λ r. ⌜ r ≡ min self 0xffff_ffff_ffff_ffff ⌝ }
+        ensures itself { λ r. ⌜ r ≡ self ⌝ }
+    {
+        u64::from(self)
+    }
+
+    fn from_u64(n: u64) -> Option<u64> {
+        Some(n)
+    }
+
+    fn compare(self, other: u64) -> Ordering {
+        self.cmp(&other)
+    }
+
+    fn checked_add(self, other: u64) -> Option<u64> {
+        u64::checked_add(self, other)
+    }
+}
+
+pub impl GenericInteger for u64 as U64GenericInteger {
+    fn ten() -> u64 {
+        Self::from_u16(10)
+    }
+
+    fn from_u16(word: u16) -> u64 {
+        u64::from(word)
+    }
+
+    fn checked_sub(self, other: u64) -> Option<u64> {
+        u64::checked_sub(self, other)
+    }
+
+    fn checked_mul(self, other: u64) -> Option<u64> {
+        u64::checked_mul(self, other)
+    }
+
+    fn checked_div(self, by: u64) -> Option<u64> {
+        u64::checked_div(self, by)
+    }
+
+    fn div_rem(self, by: u64) -> Option<(u64, u64)> {
+        if by == 0 {
+            None
+        } else {
+            Some((self / by, self % by))
+        }
+    }
+
+    fn to_u8(self) -> Option<u8> {
+        u8::try_from(self).ok()
+    }
+}

@@ -1,0 +1,52 @@
+// Sums, differences and tenfolds of packed decimals, on whole words.
+ghost use Prim.Native.Nat.{_+_, _-_, _*_, _≤_};
+ghost use Rattle.generic.specs.Exact.{Exactly};
+ghost use Rattle.packed.specs.Digits.{decimal};
+use super::PackedDecimal;
+
+// 6 in each digit but the highest: with it a digit above 9 carries into the next four bits.
+const SIXES: u64 = 0x0666_6666_6666_6666;
+
+// The lowest bit of each digit but the highest.
+const LOWEST: u64 = 0x0111_1111_1111_1111;
+
+impl PackedDecimal {
+    // None exactly when the sum passes the greatest.
+    pub(super) fn sum(self, other: PackedDecimal) -> Option<PackedDecimal>
+        ensures { λ r. ⌜ Exactly (λ p. decimal 16 (p .word)) r (decimal 16 (self .word) + decimal 16 (other .word) ≤ 9_999_999_999_999_999) (decimal 16 (self .word) + decimal 16 (other .word)) ⌝ }
+    {
+        let biased = self.word + SIXES;
+        let sum = biased.checked_add(other.word)?;
+        if sum >> 60 > 9 {
+            return None;
+        }
+        // Where a digit carried, the bit above it is not the one that adding without carries would give.
+        let carried = ((biased ^ other.word ^ sum) >> 4) & LOWEST;
+        Some(PackedDecimal {
+            word: sum - (SIXES - 6 * carried),
+        })
+    }
+
+    // None exactly when the difference is below 0.
+    pub(super) fn difference(self, other: PackedDecimal) -> Option<PackedDecimal>
+        ensures { λ r. ⌜ Exactly (λ p. decimal 16 (p .word)) r (decimal 16 (other .word) ≤ decimal 16 (self .word)) (decimal 16 (self .word) - decimal 16 (other .word)) ⌝ }
+    {
+        let difference = self.word.checked_sub(other.word)?;
+        let borrowed = ((self.word ^ other.word ^ difference) >> 4) & LOWEST;
+        Some(PackedDecimal {
+            word: difference - 6 * borrowed,
+        })
+    }
+
+    // None exactly when ten times the number passes the greatest.
+    pub(super) fn tenfold(self) -> Option<PackedDecimal>
+        ensures { λ r. ⌜ Exactly (λ p. decimal 16 (p .word)) r (decimal 16 (self .word) * 10 ≤ 9_999_999_999_999_999) (decimal 16 (self .word) * 10) ⌝ }
+    {
+        if self.word >> 60 != 0 {
+            return None;
+        }
+        Some(PackedDecimal {
+            word: self.word << 4,
+        })
+    }
+}
