@@ -1,8 +1,11 @@
-// Sums, differences and tenfolds of packed decimals, on whole words.
-ghost use Prim.Native.Nat.{_+_, _-_, _*_, _≤_};
+// Order, sums, differences and tenfolds of packed decimals, on whole words.
+ghost use mathlib.Core.Path.{_≡_};
+ghost use Prim.Native.Nat.{_+_, _-_, _*_, _≤_, _<_};
+ghost use Rattle.std.specs.Orderings.{Decides, Ranked};
 ghost use Rattle.generic.specs.Exact.{Exactly};
 ghost use Rattle.packed.specs.Digits.{decimal};
 use super::PackedDecimal;
+use std::cmp::Ordering;
 
 // 6 in each digit but the highest: with it a digit above 9 carries into the next four bits.
 const SIXES: u64 = 0x0666_6666_6666_6666;
@@ -11,6 +14,20 @@ const SIXES: u64 = 0x0666_6666_6666_6666;
 const LOWEST: u64 = 0x0111_1111_1111_1111;
 
 impl PackedDecimal {
+    // The words stand in the order of their numbers.
+    pub(super) fn order(self, other: PackedDecimal) -> Ordering
+        ensures { λ r. ⌜ Ranked r (decimal 16 (self .word) < decimal 16 (other .word)) (decimal 16 (self .word) ≡ decimal 16 (other .word)) (decimal 16 (other .word) < decimal 16 (self .word)) ⌝ }
+    {
+        self.word.cmp(&other.word)
+    }
+
+    // Sixteen digits write 0 only where each is 0.
+    pub(super) fn all_zero(self) -> bool
+        ensures { λ r. ⌜ Decides r (decimal 16 (self .word) ≡ 0) ⌝ }
+    {
+        self.word == 0
+    }
+
     // None exactly when the sum passes the greatest.
     pub(super) fn sum(self, other: PackedDecimal) -> Option<PackedDecimal>
         ensures { λ r. ⌜ Exactly (λ p. decimal 16 (p .word)) r (decimal 16 (self .word) + decimal 16 (other .word) ≤ 9_999_999_999_999_999) (decimal 16 (self .word) + decimal 16 (other .word)) ⌝ }

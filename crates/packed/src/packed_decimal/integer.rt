@@ -34,13 +34,12 @@ pub impl CountingNumber for PackedDecimal as PackedCountingNumber {
         }
     }
 
-    // The words stand in the order of their numbers.
     fn compare(self, other: PackedDecimal) -> Ordering {
-        self.word.cmp(&other.word)
+        self.order(other)
     }
 
     fn is_zero(self) -> bool {
-        self.word == 0
+        self.all_zero()
     }
 
     fn checked_add(self, other: PackedDecimal) -> Option<PackedDecimal> {

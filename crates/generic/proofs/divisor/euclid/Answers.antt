@@ -1,5 +1,5 @@
 use Rattle.generic.proofs.Euclid.{same-start, same-more, same-end}
-use Rattle.generic.proofs.divisor.gcd.Needs as need
+use Rattle.generic.proofs.divisor.euclid.Needs as need
 
 pub loop-rest-holds : need.loop-rest-holds
 loop-rest-holds g c = same-start _ _

@@ -1,7 +1,7 @@
 use native.Mathlib.Omega.{arith}
 use borrow.Author.Needs.{needs}
 use Rattle.packed.proofs.Decimals.{decimal-ranked}
-use Rattle.packed.proofs.packed_decimal.integer.PackedCountingNumber.compare.Needs as need
+use Rattle.packed.proofs.packed_decimal.PackedDecimal.order.Needs as need
 
 pub returns : need.returns
 returns c =

@@ -1,5 +1,5 @@
 use Rattle.generic.proofs.Euclid.{SameDivisors}
-use Rattle.generic.proofs.divisor.gcd.Given as given
+use Rattle.generic.proofs.divisor.euclid.Given as given
 
 abbrev pub Inv-loop-rest : given.InvT-loop-rest
 Inv-loop-rest g l =
