@@ -33,7 +33,8 @@ A line is
 
 At the end standard error tells how many records were packed, refused, bad and short.
 The status is 0, or 1 with a message if the input cannot be read or the output cannot be written,
-if an option is unknown or if more than one file is named.
+if an option is unknown or if more than one file is named. A pipe that its reader has closed ends
+the program by SIGPIPE, without a message, unless that signal is ignored.
 ";
 
 fn main(rt: LibcRuntime) -> Result<(), Failure> {

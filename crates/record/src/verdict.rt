@@ -31,20 +31,20 @@ pub enum Verdict {
 pub const RECORD_BYTES: usize = 20;
 
 // Bytes beyond the record are not looked at.
-pub fn judge(record: &[u8]) -> Verdict
-    ensures { λ r. ⌜ r ≡ verdict (now («record» .entry)) ⌝ }
+pub fn judge(bytes: &[u8]) -> Verdict
+    ensures { λ r. ⌜ r ≡ verdict (now (bytes .entry)) ⌝ }
 {
-    if record.len() < RECORD_BYTES {
+    if bytes.len() < RECORD_BYTES {
         return Verdict::Short;
     }
-    let Some(kind) = Kind::of_byte(record[0]) else {
+    let Some(kind) = Kind::of_byte(bytes[0]) else {
         return Verdict::Bad;
     };
-    let Some(sign) = sign_of_byte(record[1]) else {
+    let Some(sign) = sign_of_byte(bytes[1]) else {
         return Verdict::Bad;
     };
-    match read_depth(record, kind, sign) {
-        Ok(depth) => Verdict::Pack(depth, word_at(record, 2)),
+    match read_depth(bytes, kind, sign) {
+        Ok(depth) => Verdict::Pack(depth, word_at(bytes, 2)),
         Err(fault) => Verdict::Refused(fault),
     }
 }
@@ -60,12 +60,12 @@ fn sign_of_byte(byte: u8) -> Option<Sign>
 }
 
 // The numerator is judged before the denominator.
-fn read_depth(record: &[u8], kind: Kind, sign: Sign) -> Result<Depth, InputFault>
-    requires { ⌜ 20 ≤ length (now «record») ⌝ }
-    ensures { λ r. ⌜ r ≡ fraction kind sign (bytesNumber 8 4 (now («record» .entry))) (bytesNumber 8 12 (now («record» .entry))) ⌝ }
+fn read_depth(bytes: &[u8], kind: Kind, sign: Sign) -> Result<Depth, InputFault>
+    requires { ⌜ 20 ≤ length (now bytes) ⌝ }
+    ensures { λ r. ⌜ r ≡ fraction kind sign (bytesNumber 8 4 (now (bytes .entry))) (bytesNumber 8 12 (now (bytes .entry))) ⌝ }
 {
-    let numerator = kind.read(number_at(record, 4))?;
-    let denominator = kind.read(number_at(record, 12))?;
+    let numerator = kind.read(number_at(bytes, 4))?;
+    let denominator = kind.read(number_at(bytes, 12))?;
     Ok(Depth::new(sign, numerator, denominator))
 }
 
