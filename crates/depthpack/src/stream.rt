@@ -17,45 +17,60 @@ const CHUNK: usize = 65_520;
 
 const PAGE: usize = 131_072;
 
+// Why no more bytes were read into a chunk.
+#[derive(Drop)]
+enum End {
+    Chunk,
+    Input,
+    Failed(io::Error),
+}
+
 // The line of each record of the input, and how many came of each kind.
+// Where reading fails, the whole records before the failure still have their lines.
 pub fn pack_records<R: Read, W: Write>(input: &mut R, output: &mut W) -> Result<Tally, Failure> {
     let mut chunk = [0u8; CHUNK];
     let mut scratch = [0u8; plain::LONGEST];
     let mut page = [0u8; PAGE];
     let mut tally = Tally::new();
     for _ in 0..u64::MAX {
-        let filled = fill(input, &mut chunk)?;
+        let (filled, end) = fill(input, &mut chunk);
+        let bytes = match &end {
+            End::Failed(_) => filled - filled % RECORD_BYTES,
+            _ => filled,
+        };
         pack_chunk(
-            &chunk[0..filled],
+            &chunk[0..bytes],
             &mut scratch,
             &mut page,
             &mut tally,
             output,
         )?;
-        if filled < CHUNK {
-            break;
+        match end {
+            End::Chunk => {}
+            End::Input => break,
+            End::Failed(error) => return Err(Failure::Read(error)),
         }
     }
     Ok(tally)
 }
 
-// Reads until the chunk is full or the input ends.
-fn fill<R: Read>(input: &mut R, chunk: &mut [u8]) -> Result<usize, Failure>
-    ensures { λ r. ⌜ made r (λ n. n ≤ length (now (chunk .exit))) ⌝ }
+// Reads until the chunk is full, the input ends or reading fails.
+fn fill<R: Read>(input: &mut R, chunk: &mut [u8]) -> (usize, End)
+    ensures { λ r. ⌜ r .0 ≤ length (now (chunk .exit)) ⌝ }
 {
     let mut filled = 0;
     while filled < chunk.len() {
-        let n = read_some(input, &mut chunk[filled..])?;
-        if n == 0 {
-            break;
+        match read_some(input, &mut chunk[filled..]) {
+            Ok(0) => return (filled, End::Input),
+            Ok(n) => filled += n,
+            Err(error) => return (filled, End::Failed(error)),
         }
-        filled += n;
     }
-    Ok(filled)
+    (filled, End::Chunk)
 }
 
 // One read, begun again where a signal interrupts it.
-fn read_some<R: Read>(input: &mut R, chunk: &mut [u8]) -> Result<usize, Failure>
+fn read_some<R: Read>(input: &mut R, chunk: &mut [u8]) -> io::Result<usize>
     ensures { λ r. ⌜ made r (λ n. n ≤ length (now (chunk .exit))) ⌝ }
 {
     for _ in 0..u64::MAX {
@@ -63,12 +78,12 @@ fn read_some<R: Read>(input: &mut R, chunk: &mut [u8]) -> Result<usize, Failure>
             Ok(n) => return Ok(n),
             Err(error) => {
                 if error.kind() != io::ErrorKind::Interrupted {
-                    return Err(Failure::Read(error));
+                    return Err(error);
                 }
             }
         }
     }
-    Err(Failure::Read(io::Error::from(io::ErrorKind::Interrupted)))
+    Err(io::Error::from(io::ErrorKind::Interrupted))
 }
 
 // The records of a chunk, the last of which may be cut.

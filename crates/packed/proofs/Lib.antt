@@ -4,3 +4,4 @@ pub mod Flags
 pub mod Halves
 pub mod Lowest
 pub mod Sixteen
+pub mod Tests

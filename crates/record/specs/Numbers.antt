@@ -1,10 +1,10 @@
 -- The number that a word of 64 bits writes in a type, or why it writes none.
-use mathlib.Core.Bool.{Bool, true, cond, _&&_}
-use Prim.Native.Nat.{ℕ, zero, suc}
+use mathlib.Core.Bool.{cond}
+use Prim.Native.Nat.{ℕ}
 use lib.Dec.{leb}
 use Rattle.std.specs.declared.result.Result.{Result}
 use Rattle.std.specs.declared.result.Result.the-variants.{Ok, Err}
-use Rattle.packed.specs.Digits.{nibble, decimal}
+use Rattle.packed.specs.Digits.{allDigits, decimal}
 use Rattle.record.specs.declared.fault.InputFault.{InputFault}
 use Rattle.record.specs.declared.fault.InputFault.the-variants.{NotDecimal, DoesNotFit}
 use Rattle.record.specs.declared.kind.Kind.{Kind}
@@ -13,11 +13,6 @@ use Rattle.record.specs.declared.kind.Kind.the-variants.{U16, U32, U64, Packed
 -- The word itself, up to a type's greatest.
 abbrev pub upTo : ℕ → ℕ → Result ℕ InputFault
 upTo greatest w = cond (leb w greatest) (Ok w) (Err DoesNotFit)
-
--- Each of the lowest k fours of bits is a decimal digit.
-unfoldable pub allDigits : ℕ → ℕ → Bool
-allDigits zero w = true
-allDigits (suc k) w = allDigits k w && leb (nibble w k) 9
 
 -- The number that sixteen decimal digits write.
 abbrev pub packedNumber : ℕ → Result ℕ InputFault

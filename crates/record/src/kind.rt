@@ -6,11 +6,11 @@ use crate::fault::InputFault;
 use crate::fault::InputFaultFromPackedFault;
 use generic::counting::CountingNumber;
 use generic::integer::GenericInteger;
-use generic::integer::U16GenericInteger;
-use generic::integer::U32GenericInteger;
-use generic::integer::U64GenericInteger;
-use packed::integer::PackedCountingNumber;
+use generic::machine16::U16GenericInteger;
+use generic::machine32::U32GenericInteger;
+use generic::machine64::U64GenericInteger;
 use packed::packed_decimal::PackedDecimal;
+use packed::packed_decimal::integer::PackedCountingNumber;
 
 #[derive(Clone, Copy, PartialEq, Eq, Debug)]
 pub enum Kind {
