@@ -179,7 +179,7 @@ struct Fraction {
     left_out: u16,
 }
 
-// Puts the groups of rest over d, a fraction below 1, behind those of the whole part: at most `limit` digits.
+// Puts the groups of numerator over d, a fraction below 1, behind those of the whole part: at most `limit` digits.
 fn put_fraction(out: &mut [u8], whole_groups: u16, numerator: u64, d: u64, limit: u16) -> Fraction
     requires { ⌜ 8_210 ≤ length (now out) ⌝ }
     requires { ⌜ numerator < d ⌝ }
@@ -198,11 +198,7 @@ fn put_fraction(out: &mut [u8], whole_groups: u16, numerator: u64, d: u64, limit
         let (four, next) = four_digits(rest, d);
         let wanted = (limit - 4 * i).min(4);
         let group = cut_group(four, wanted);
-        let digits = if next == 0 {
-            wanted.min(significant_digits(four))
-        } else {
-            wanted
-        };
+        let digits = counted_digits(four, next, wanted);
         scale += digits;
         rest = next;
         if group != 0 || groups > 0 || whole_groups > 0 {
@@ -242,6 +238,17 @@ fn cut_group(group: u16, digits: u16) -> u16 {
         2 => group / 100 * 100,
         3 => group / 10 * 10,
         _ => group,
+    }
+}
+
+// How many of the wanted digits of a group count: where nothing is left behind it, none after its last that is not 0.
+fn counted_digits(group: u16, left: u64, wanted: u16) -> u16
+    ensures { λ r. ⌜ r ≤ wanted ⌝ }
+{
+    if left == 0 {
+        wanted.min(significant_digits(group))
+    } else {
+        wanted
     }
 }
 
