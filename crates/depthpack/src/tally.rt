@@ -1,4 +1,6 @@
 // How many records of each kind a run has met.
+ghost use mathlib.Core.Path.{_≡_};
+ghost use Rattle.depthpack.specs.Tallies.{none, counted};
 use record::verdict::Verdict;
 use std::fmt;
 
@@ -11,7 +13,9 @@ pub struct Tally {
 }
 
 impl Tally {
-    pub fn new() -> Tally {
+    pub fn new() -> Tally
+        ensures { λ r. ⌜ r ≡ none ⌝ }
+    {
         Tally {
             packed: 0,
             refused: 0,
@@ -21,7 +25,9 @@ impl Tally {
     }
 
     // One record more.
-    pub fn count(&mut self, verdict: Verdict) {
+    pub fn count(&mut self, verdict: Verdict)
+        ensures { λ _. ⌜ now (self .exit) ≡ counted verdict (now (self .entry)) ⌝ }
+    {
         match verdict {
             Verdict::Pack(_, _) => self.packed = self.packed.saturating_add(1),
             Verdict::Refused(_) => self.refused = self.refused.saturating_add(1),
