@@ -65,6 +65,9 @@ pub impl GenericInteger for PackedDecimal as PackedGenericInteger {
         if other.word == TEN {
             return self.tenfold();
         }
+        if self.word == TEN {
+            return other.tenfold();
+        }
         PackedDecimal::from_u64(self.number().checked_mul(other.number())?)
     }
 
