@@ -1,0 +1,53 @@
+-- The laws of long division: over whole runs of calls, and of the digits themselves.
+use mathlib.Core.Path.{_≡_}
+use mathlib.Core.List.{List, [], _∷_}
+use Prim.Native.Nat.{ℕ, _+_, _-_, _*_, _^_, _<_, _≤_}
+use Rattle.division.specs.Digits.{fed, shifted}
+use Rattle.division.specs.Expansion.{digits, rest, coming}
+use Rattle.division.specs.Runs.{Call, Run, total, last-rest, last-place, Shared, Each-goes, Each-refused}
+
+-- From the rest m at the place p on: no call is refused, the sinks took the next digits, each once and in order, and the
+-- state handed back last is the one after them.
+pub record Goes-on (d m p : ℕ) (cs : List Call) : Type 0 where
+  pub kinds : Each-goes cs
+  pub shared : Shared (digits d m p (total cs)) cs
+  pub state : last-rest m cs ≡ rest d m p (total cs)
+  pub place : last-place p cs ≡ p - total cs
+
+-- Each call is refused, no sink took a digit, and the state handed back last is the first.
+pub record Stands-still (d m : ℕ) (cs : List Call) : Type 0 where
+  pub kinds : Each-refused d m cs
+  pub none : total cs ≡ 0
+  pub state : last-rest m cs ≡ m
+  pub place : last-place 0 cs ≡ 0
+
+-- Whatever the calls and their sinks: a division that stands for a rest below its whole goes on, and one in its fraction whose
+-- remainder is not below the divisor, 0 among the divisors, stands still.
+abbrev pub One-expansion : Type 0
+One-expansion =
+    (d m p : ℕ) (cs : List Call) → Run d m p cs → (m < 10 ^ p * d → Goes-on d m p cs) × (p ≡ 0 → d ≤ m → Stands-still d m cs)
+
+-- After j digits Q is the number that they form. While j ≤ p it is m = Q × 10^(p-j) × d + rest, and past that
+-- m × 10^(j-p) = Q × d + rest, the rest below what Q counts: so Q is m × 10^(j-p) over 10^(p-j) × d, rounded down.
+abbrev pub Decimal : Type 0
+Decimal =
+    (d m p j : ℕ) → m < 10 ^ p * d
+    → (m * 10 ^ (j - p) ≡ fed shifted 0 (digits d m p j) * (10 ^ (p - j) * d) + rest d m p j)
+    × (rest d m p j < 10 ^ (p - j) * d)
+
+-- The digits that come, with at most l wanted, are the lesser of l and those up to the first remainder 0.
+abbrev pub Lesser : Type 0
+Lesser =
+    (d r l : ℕ)
+    → (coming d r l ≤ l)
+    × ((i : ℕ) → i < coming d r l → 0 < rest d r 0 i)
+    × (coming d r l < l → rest d r 0 (coming d r l) ≡ 0)
+
+-- Worked cases: the next digit and the rest after it, also where ten times the rest passes 65535; a whole part of two
+-- digits; a fraction that ends and one that does not.
+abbrev pub Cases : Type 0
+Cases =
+    (digits 65535 65533 0 1 ≡ 9 ∷ []) × (rest 65535 65533 0 1 ≡ 65515)
+    × (digits 65535 58981 0 1 ≡ 8 ∷ []) × (rest 65535 58981 0 1 ≡ 65530)
+    × (digits 2 30 2 1 ≡ 1 ∷ []) × (rest 2 30 2 1 ≡ 10)
+    × (digits 2 30 2 2 ≡ 1 ∷ 5 ∷ []) × (coming 8 1 9 ≡ 3) × (coming 3 1 9 ≡ 9)

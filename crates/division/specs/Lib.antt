@@ -1,0 +1,10 @@
+pub mod Bounds
+pub mod Digits
+pub mod Expansion
+pub mod Faults
+pub mod Laws
+pub mod Order
+pub mod Resume
+pub mod Runs
+pub mod Sink
+pub mod Whole
