@@ -6,6 +6,6 @@ use native.Mathlib.Omega.{arith}
 pub cut-bounded : (t l limit : ℕ) → t + l ≤ 65535 → t + min limit l ≤ 65535
 cut-bounded t l limit h = omega arith
 
--- Of a buffer of n bytes at most 65535 are digits.
-pub text-bounded : (t n : ℕ) → min t 65535 + (min n 65535 - t) ≤ 65535
-text-bounded t n = omega arith
+-- What is left of a limit n, of which at most 65535 count.
+pub limit-bounded : (t n : ℕ) → min t 65535 + (min n 65535 - t) ≤ 65535
+limit-bounded t n = omega arith

@@ -7,4 +7,5 @@ pub mod Order
 pub mod Resume
 pub mod Runs
 pub mod Sink
+pub mod Sinks
 pub mod Whole

@@ -1,50 +1,52 @@
 // A sink that only counts.
 ghost use mathlib.Core.Path.{_≡_};
-ghost use Prim.Native.Nat.{_+_, _≤_};
-ghost use Rattle.division.specs.Order.{unit-order};
+
+ghost use Rattle.division.specs.Sinks.{counter, Stands};
 use crate::sink::Answer;
 use crate::sink::DigitSink;
 
 #[derive(Drop)]
 pub struct Counter {
     taken: u16,
-    left: u16,
-    ghost bounded: { taken + left ≤ 65535 },
+    limit: u16,
 }
 
 impl Counter {
     pub fn new(left: u16) -> Counter
-        ensures { λ r. ⌜ (r .taken ≡ 0) × (r .left ≡ left) ⌝ }
+        ensures { λ r. ⌜ Stands counter r 0 left 0 ⌝ }
     {
-        Counter { taken: 0, left }
+        Counter {
+            taken: 0,
+            limit: left,
+        }
     }
 }
 
 pub impl DigitSink for Counter as CounterDigitSink {
-    ghost taken = { λ s. s .taken };
+    ghost taken = { counter .taken };
 
-    ghost left = { λ s. s .left };
+    ghost left = { counter .left };
 
-    ghost bounded = { λ s. s .bounded };
+    ghost bounded = { counter .bounded };
 
-    ghost held = { λ s. 0 };
+    ghost held = { counter .held };
 
-    ghost step = { λ h d. 0 };
+    ghost step = { counter .step };
 
-    ghost on = { λ s t. Unit {0} };
+    ghost on = { counter .on };
 
-    ghost order = { unit-order };
+    ghost order = { counter .order };
 
     fn offer(&mut self, digit: u8) -> Answer {
         if digit > 9 {
             return Answer::NotDigit;
         }
-        if self.left == 0 {
+        let left = self.left();
+        if left == 0 {
             return Answer::Full;
         }
         self.taken += 1;
-        self.left -= 1;
-        if self.left == 0 {
+        if left == 1 {
             Answer::Enough
         } else {
             Answer::More
@@ -56,6 +58,6 @@ pub impl DigitSink for Counter as CounterDigitSink {
     }
 
     fn left(&self) -> u16 {
-        self.left
+        self.limit.saturating_sub(self.taken)
     }
 }

@@ -1,7 +1,7 @@
 // A layer over any sink, with a limit of its own.
 ghost use mathlib.Core.Path.{_≡_};
 ghost use Prim.Native.Nat.{min};
-ghost use Rattle.division.specs.Bounds.{cut-bounded};
+ghost use Rattle.division.specs.Sinks.{cut, Stands};
 use crate::sink::Answer;
 use crate::sink::DigitSink;
 
@@ -14,7 +14,8 @@ pub struct Cut<S> {
 
 impl<S: DigitSink> Cut<S> {
     pub fn new(below: S, limit: u16) -> Cut<S>
-        ensures { λ r. ⌜ (r .below ≡ below) × (r .limit ≡ limit) ⌝ }
+        ensures begins { λ r. ⌜ Stands (cut S·DigitSink) r (taken below) (min limit (left below)) (held below) ⌝ }
+        ensures below { λ r. ⌜ r .below ≡ below ⌝ }
     {
         Cut { below, limit }
     }
@@ -28,19 +29,19 @@ impl<S: DigitSink> Cut<S> {
 }
 
 pub impl<S: DigitSink> DigitSink for Cut<S> as CutDigitSink {
-    ghost taken = { λ s. S·DigitSink .taken (s .below) };
+    ghost taken = { cut S·DigitSink .taken };
 
-    ghost left = { λ s. min (s .limit) (S·DigitSink .left (s .below)) };
+    ghost left = { cut S·DigitSink .left };
 
-    ghost bounded = { λ s. cut-bounded (S·DigitSink .taken (s .below)) (S·DigitSink .left (s .below)) (s .limit) (S·DigitSink .bounded (s .below)) };
+    ghost bounded = { cut S·DigitSink .bounded };
 
-    ghost held = { λ s. S·DigitSink .held (s .below) };
+    ghost held = { cut S·DigitSink .held };
 
-    ghost step = { S·DigitSink .step };
+    ghost step = { cut S·DigitSink .step };
 
-    ghost on = { λ s t. S·DigitSink .on (s .below) (t .below) };
+    ghost on = { cut S·DigitSink .on };
 
-    ghost order = { record { stays = λ s. S·DigitSink .order .stays (s .below); joins = λ s t u. S·DigitSink .order .joins (s .below) (t .below) (u .below) } };
+    ghost order = { cut S·DigitSink .order };
 
     fn offer(&mut self, digit: u8) -> Answer {
         if digit > 9 {

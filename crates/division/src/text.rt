@@ -3,9 +3,7 @@ ghost use mathlib.Core.Path.{_≡_};
 ghost use Prim.Native.Nat.{_-_, min};
 ghost use denote.Ref.{now, name};
 ghost use lib.ListN.{length, take};
-ghost use Rattle.division.specs.Bounds.{text-bounded};
-ghost use Rattle.division.specs.Digits.{ascii-number, shifted};
-ghost use Rattle.division.specs.Order.{Text-on, text-stays, text-joins};
+ghost use Rattle.division.specs.Sinks.{text, Stands};
 use crate::sink::Answer;
 use crate::sink::DigitSink;
 
@@ -17,7 +15,8 @@ pub struct TextSink<'a> {
 
 impl<'a> TextSink<'a> {
     pub fn new(buffer: &'a mut [u8]) -> TextSink<'a>
-        ensures { λ r. ⌜ (r .taken ≡ 0) × (now (r .buffer) ≡ now (buffer .entry)) × (name (r .buffer) ≡ name (buffer .entry)) ⌝ }
+        ensures begins { λ r. ⌜ Stands text r 0 (min (length (now (buffer .entry))) 65535) 0 ⌝ }
+        ensures buffer { λ r. ⌜ (now (r .buffer) ≡ now (buffer .entry)) × (name (r .buffer) ≡ name (buffer .entry)) × (r .taken ≡ 0) ⌝ }
     {
         TextSink { buffer, taken: 0 }
     }
@@ -31,20 +30,19 @@ impl<'a> TextSink<'a> {
 }
 
 pub impl<'a> DigitSink for TextSink<'a> as TextDigitSink {
-    ghost taken = { λ s. min (s .taken) 65535 };
+    ghost taken = { text .taken };
 
-    ghost left = { λ s. min (length (now (s .buffer))) 65535 - s .taken };
+    ghost left = { text .left };
 
-    ghost bounded = { λ s. text-bounded (s .taken) (length (now (s .buffer))) };
+    ghost bounded = { text .bounded };
 
-    // The number that stands in the buffer.
-    ghost held = { λ s. ascii-number (take (s .taken) (now (s .buffer))) };
+    ghost held = { text .held };
 
-    ghost step = { shifted };
+    ghost step = { text .step };
 
-    ghost on = { λ s t. Text-on (name (s .buffer)) (now (s .buffer)) (s .taken) (name (t .buffer)) (now (t .buffer)) (t .taken) };
+    ghost on = { text .on };
 
-    ghost order = { record { stays = λ s. text-stays (name (s .buffer)) (now (s .buffer)) (s .taken); joins = λ s t u. text-joins (name (s .buffer)) (now (s .buffer)) (s .taken) (name (t .buffer)) (now (t .buffer)) (t .taken) (name (u .buffer)) (now (u .buffer)) (u .taken) } };
+    ghost order = { text .order };
 
     fn offer(&mut self, digit: u8) -> Answer {
         if digit > 9 {
