@@ -1,1 +1,3 @@
 pub mod Fed
+pub mod Tests
+pub mod Trial

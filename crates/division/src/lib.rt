@@ -6,3 +6,4 @@ pub mod fault;
 pub mod sink;
 pub mod state;
 pub mod text;
+mod digit;
