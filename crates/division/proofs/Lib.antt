@@ -1,3 +1,4 @@
+pub mod Due
 pub mod Fed
 pub mod Tests
 pub mod Trial

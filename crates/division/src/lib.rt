@@ -7,3 +7,4 @@ pub mod sink;
 pub mod state;
 pub mod text;
 mod digit;
+pub mod fraction;
