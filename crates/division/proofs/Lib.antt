@@ -1,4 +1,5 @@
 pub mod Due
 pub mod Fed
+pub mod Places
 pub mod Tests
 pub mod Trial

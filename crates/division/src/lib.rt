@@ -8,3 +8,4 @@ pub mod state;
 pub mod text;
 mod digit;
 pub mod fraction;
+pub mod whole;
