@@ -23,4 +23,3 @@ Offered step t l h d t' l' h' NotDigit = (10 ≤ d) × Same t l h t' l' h'
 Offered step t l h d t' l' h' Full = (d < 10) × (l ≡ 0) × Same t l h t' l' h'
 Offered step t l h d t' l' h' Enough = (l' ≡ 0) × Takes step t l h d t' l' h'
 Offered step t l h d t' l' h' More = (0 < l') × Takes step t l h d t' l' h'
-

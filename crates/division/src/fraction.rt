@@ -14,7 +14,11 @@ use generic::counting::CountingNumber;
 use generic::integer::GenericInteger;
 
 // Offers the next digits of the fraction until it ends or the sink wants no more, and answers the remainder then.
-fn advance<T: GenericInteger + CountingNumber, S: DigitSink>(first: T, divisor: T, sink: &mut S) -> T
+fn advance<T: GenericInteger + CountingNumber, S: DigitSink>(
+    first: T,
+    divisor: T,
+    sink: &mut S,
+) -> T
     requires { ⌜ number first < number divisor ⌝ }
     ensures went { λ a. ⌜ Went step (number divisor) (number first) 0 (coming (number divisor) (number first) (left (now (sink .entry)))) (taken (now (sink .entry))) (left (now (sink .entry))) (held (now (sink .entry))) (taken (now (sink .exit))) (left (now (sink .exit))) (held (now (sink .exit))) (number a) 0 ⌝ }
     ensures on { λ _. ⌜ on (now (sink .entry)) (now (sink .exit)) ⌝ }
@@ -37,7 +41,10 @@ fn advance<T: GenericInteger + CountingNumber, S: DigitSink>(first: T, divisor: 
 
 // Goes on with the fraction, and hands back the state after the digits taken. Refused with 7 where the divisor is 0, and else
 // with 8 where the remainder is not below it: nothing is then offered, and the very state is handed back.
-pub fn divide_rem_resume<T: GenericInteger + CountingNumber, S: DigitSink>(state: DivisionState<T>, sink: &mut S) -> Result<Resumed<T>, Refused<T>>
+pub fn divide_rem_resume<T: GenericInteger + CountingNumber, S: DigitSink>(
+    state: DivisionState<T>,
+    sink: &mut S,
+) -> Result<Resumed<T>, Refused<T>>
     ensures resumes { λ a. ⌜ Resumes number step (state .remainder) (state .divisor) (taken (now (sink .entry))) (left (now (sink .entry))) (held (now (sink .entry))) (taken (now (sink .exit))) (left (now (sink .exit))) (held (now (sink .exit))) a ⌝ }
     ensures on { λ _. ⌜ on (now (sink .entry)) (now (sink .exit)) ⌝ }
 {
@@ -61,7 +68,11 @@ pub fn divide_rem_resume<T: GenericInteger + CountingNumber, S: DigitSink>(state
 }
 
 // Begins the division of the remainder by the divisor, with no whole part, and goes on with it.
-pub fn divide_rem<T: GenericInteger + CountingNumber, S: DigitSink>(remainder: T, divisor: T, sink: &mut S) -> Result<Resumed<T>, Refused<T>>
+pub fn divide_rem<T: GenericInteger + CountingNumber, S: DigitSink>(
+    remainder: T,
+    divisor: T,
+    sink: &mut S,
+) -> Result<Resumed<T>, Refused<T>>
     ensures resumes { λ a. ⌜ Resumes number step remainder divisor (taken (now (sink .entry))) (left (now (sink .entry))) (held (now (sink .entry))) (taken (now (sink .exit))) (left (now (sink .exit))) (held (now (sink .exit))) a ⌝ }
     ensures on { λ _. ⌜ on (now (sink .entry)) (now (sink .exit)) ⌝ }
 {

@@ -2,10 +2,11 @@
 mod certain;
 pub mod counter;
 pub mod cut;
+mod digit;
 pub mod fault;
+pub mod fraction;
+pub mod law;
 pub mod sink;
 pub mod state;
 pub mod text;
-mod digit;
-pub mod fraction;
 pub mod whole;

@@ -15,7 +15,10 @@ use generic::counting::CountingNumber;
 use generic::integer::GenericInteger;
 
 // Begins the division of n by d, with all digits of its whole part to come. Refused with 7 exactly when d is 0.
-pub fn open<T: GenericInteger + CountingNumber>(n: T, d: T) -> Result<IntegralState<T>, DivisionFault>
+pub fn open<T: GenericInteger + CountingNumber>(
+    n: T,
+    d: T,
+) -> Result<IntegralState<T>, DivisionFault>
     ensures { λ a. ⌜ Opens number greatest n d a ⌝ }
 {
     if d.is_zero() {
@@ -81,7 +84,10 @@ fn after<T: GenericInteger + CountingNumber>(rest: T, divisor: T, unit: T, place
 }
 
 // Goes on with the whole part, and hands back the state after the digits taken: paused while digits of it are to come.
-pub fn divide_integral<T: GenericInteger + CountingNumber, S: DigitSink>(state: IntegralState<T>, sink: &mut S) -> Integral<T>
+pub fn divide_integral<T: GenericInteger + CountingNumber, S: DigitSink>(
+    state: IntegralState<T>,
+    sink: &mut S,
+) -> Integral<T>
     requires { ⌜ Sound-state number greatest state ⌝ }
     ensures went { λ a. ⌜ Integrates number greatest step state (taken (now (sink .entry))) (left (now (sink .entry))) (held (now (sink .entry))) (taken (now (sink .exit))) (left (now (sink .exit))) (held (now (sink .exit))) a ⌝ }
     ensures on { λ _. ⌜ on (now (sink .entry)) (now (sink .exit)) ⌝ }
