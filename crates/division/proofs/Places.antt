@@ -15,9 +15,6 @@ unit-up (suc p) d h =
     let e : suc p - 1 ≡ p = omega arith in
     rw e (sym (mul-assoc 10 (10 ^ p) d) ∙ ap (λ z. z * d) (sym (pow-succ' 10 p)))
 
-pub unit-one : (d : ℕ) → 10 ^ (1 - 1) * d ≡ d
-unit-one d = one-mul d
-
 -- a place whose unit is below 2^64
 pub few-places : (p u d : ℕ) → u ≡ 10 ^ (p - 1) * d → 0 < d → u < 2 ^ 64 → p ≤ 20
 few-places p u d e pos small =
@@ -30,12 +27,12 @@ few-places p u d e pos small =
           absurd (omega (arith, mul-one (10 ^ (p - 1))))
     ]
 
--- a state as it is opened
-pub opened-sound : (n d u p most : ℕ) → 0 < d → 0 < p → u ≡ 10 ^ (p - 1) * d → u ≤ most → n < 10 * u → Sound n d u p most
-opened-sound n d u p most pos some eu fits below = record { divisor = pos; place = some; unit = eu; fits = fits; rest = below }
+-- a state as it begins
+pub begun-sound : (n d u p most : ℕ) → 0 < d → 0 < p → u ≡ 10 ^ (p - 1) * d → u ≤ most → n < 10 * u → Sound n d u p most
+begun-sound n d u p most pos some eu fits below = record { divisor = pos; place = some; unit = eu; fits = fits; rest = below }
 
-pub opened-width : (n d u p : ℕ) → 0 < p → u ≡ 10 ^ (p - 1) * d → n < 10 * u → (1 < p → u ≤ n) → Width n d p
-opened-width n d u p some eu below no-zero =
+pub begun-width : (n d u p : ℕ) → 0 < p → u ≡ 10 ^ (p - 1) * d → n < 10 * u → (1 < p → u ≤ n) → Width n d p
+begun-width n d u p some eu below no-zero =
     record {
       some = some;
       enough = rw (sym (unit-up p d some), sym eu) below;

@@ -30,9 +30,13 @@ pub record Width (n d w : ℕ) : Type 0 where
   pub enough : n < 10 ^ w * d
   pub no-zero : 1 < w → 10 ^ (w - 1) * d ≤ n
 
--- Opening n over d: the state of all its whole digits, and refused with 7 exactly when d is 0.
+-- The state that n over d begins with: all its whole digits are to come.
+abbrev pub Begun : {X : Type 0} → (X → ℕ) → ℕ → X → X → IntegralState X → Type 0
+Begun number most n d s = Sound-state number most s × (s .rest ≡ n) × (s .divisor ≡ d) × Width (number n) (number d) (s .place)
+
+-- Opening n over d is refused with 7 exactly when d is 0.
 abbrev pub Opens : {X : Type 0} → (X → ℕ) → ℕ → X → X → Result (IntegralState X) DivisionFault → Type 0
-Opens number most n d (Ok s) = Sound-state number most s × (s .rest ≡ n) × (s .divisor ≡ d) × Width (number n) (number d) (s .place)
+Opens number most n d (Ok s) = Begun number most n d s
 Opens number most n d (Err f) = (number d ≡ 0) × (refusal f ≡ refuses 7 [])
 
 -- Going on with the whole part. It is paused while digits of it are still to come.

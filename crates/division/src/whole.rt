@@ -1,7 +1,7 @@
 // The whole part of a division.
 ghost use mathlib.Core.Path.{_≡_};
 ghost use Prim.Native.Nat.{ℕ, _-_, _*_, _^_, _<_, _≤_};
-ghost use Rattle.division.specs.Whole.{Sound-state, Opens, Integrates, Follows};
+ghost use Rattle.division.specs.Whole.{Sound-state, Begun, Opens, Integrates, Follows};
 use crate::certain::below;
 use crate::certain::byte;
 use crate::certain::divided;
@@ -22,16 +22,17 @@ pub fn open<T: GenericInteger + CountingNumber>(
     ensures { λ a. ⌜ Opens number greatest n d a ⌝ }
 {
     if d.is_zero() {
-        return Err(DivisionFault::ZeroDivisor);
+        Err(DivisionFault::ZeroDivisor)
+    } else {
+        Ok(begun(n, d))
     }
-    if below(n, d) {
-        return Ok(IntegralState {
-            rest: n,
-            divisor: d,
-            unit: d,
-            place: 1,
-        });
-    }
+}
+
+// The unit of the first digit is the greatest that n reaches, or the divisor itself.
+fn begun<T: GenericInteger + CountingNumber>(n: T, d: T) -> IntegralState<T>
+    requires { ⌜ 0 < number d ⌝ }
+    ensures { λ s. ⌜ Begun number greatest n d s ⌝ }
+{
     let ten = T::ten();
     let mut unit = d;
     let mut place = 1;
@@ -47,12 +48,12 @@ pub fn open<T: GenericInteger + CountingNumber>(
             None => break,
         }
     }
-    Ok(IntegralState {
+    IntegralState {
         rest: n,
         divisor: d,
         unit,
         place,
-    })
+    }
 }
 
 // The state after a digit, with what it leaves of the rest.
@@ -92,34 +93,28 @@ pub fn divide_integral<T: GenericInteger + CountingNumber, S: DigitSink>(
     ensures went { λ a. ⌜ Integrates number greatest step state (taken (now (sink .entry))) (left (now (sink .entry))) (held (now (sink .entry))) (taken (now (sink .exit))) (left (now (sink .exit))) (held (now (sink .exit))) a ⌝ }
     ensures on { λ _. ⌜ on (now (sink .entry)) (now (sink .exit)) ⌝ }
 {
-    let IntegralState {
-        mut rest,
-        divisor,
-        mut unit,
-        mut place,
-    } = state;
+    advance(state, sink)
+}
+
+// Offers the next digits of the whole part until it ends or the sink wants no more.
+fn advance<T: GenericInteger + CountingNumber, S: DigitSink>(
+    first: IntegralState<T>,
+    sink: &mut S,
+) -> Integral<T>
+    requires { ⌜ Sound-state number greatest first ⌝ }
+    ensures went { λ a. ⌜ Integrates number greatest step first (taken (now (sink .entry))) (left (now (sink .entry))) (held (now (sink .entry))) (taken (now (sink .exit))) (left (now (sink .exit))) (held (now (sink .exit))) a ⌝ }
+    ensures on { λ _. ⌜ on (now (sink .entry)) (now (sink .exit)) ⌝ }
+{
+    let mut state = first;
     'digits: loop {
-        let (digit, next) = divided(rest, unit);
+        let (digit, rest) = divided(state.rest, state.unit);
         match sink.offer(byte(digit)) {
             Answer::NotDigit => unreachable(),
-            Answer::Full => {
-                return Integral::Paused {
-                    state: IntegralState {
-                        rest,
-                        divisor,
-                        unit,
-                        place,
-                    },
-                };
-            }
-            Answer::Enough => return after(next, divisor, unit, place),
-            Answer::More => match after(next, divisor, unit, place) {
+            Answer::Full => return Integral::Paused { state },
+            Answer::Enough => return after(rest, state.divisor, state.unit, state.place),
+            Answer::More => match after(rest, state.divisor, state.unit, state.place) {
                 Integral::Ended { state } => return Integral::Ended { state },
-                Integral::Paused { state } => {
-                    rest = state.rest;
-                    unit = state.unit;
-                    place = state.place;
-                }
+                Integral::Paused { state: next } => state = next,
             },
         }
     }
