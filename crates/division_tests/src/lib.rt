@@ -1,0 +1,7 @@
+// Divisions worked by hand, run on the code.
+#[cfg(test)]
+mod fraction;
+#[cfg(test)]
+mod sinks;
+#[cfg(test)]
+mod whole;
