@@ -50,16 +50,17 @@ pub impl<S: DigitSink> DigitSink for Cut<S> as CutDigitSink {
         if self.limit == 0 {
             return Answer::Full;
         }
+        let limit = self.limit - 1;
         match self.below.offer(digit) {
             Answer::NotDigit => Answer::NotDigit,
             Answer::Full => Answer::Full,
             Answer::Enough => {
-                self.limit -= 1;
+                self.limit = limit;
                 Answer::Enough
             }
             Answer::More => {
-                self.limit -= 1;
-                if self.limit == 0 {
+                self.limit = limit;
+                if limit == 0 {
                     Answer::Enough
                 } else {
                     Answer::More

@@ -1,8 +1,9 @@
 // A sink that writes ASCII digits into a buffer of the caller's, from its front on.
 ghost use mathlib.Core.Path.{_≡_};
-ghost use Prim.Native.Nat.{_-_, min};
+ghost use Prim.Native.Nat.{_<_, min};
 ghost use denote.Ref.{now, name};
-ghost use lib.ListN.{length, take};
+ghost use lib.ListN.{length};
+ghost use Rattle.division.specs.Sink.{Takes};
 ghost use Rattle.division.specs.Sinks.{text, Stands};
 use crate::sink::Answer;
 use crate::sink::DigitSink;
@@ -26,6 +27,17 @@ impl<'a> TextSink<'a> {
     {
         let TextSink { buffer, taken: _ } = self;
         buffer
+    }
+
+    // Writes one more digit, for which there is room.
+    fn put(&mut self, digit: u8)
+        requires digit { ⌜ digit < 10 ⌝ }
+        requires room { ⌜ 0 < text .left (now self) ⌝ }
+        ensures on { λ _. ⌜ text .on (now (self .entry)) (now (self .exit)) ⌝ }
+        ensures takes { λ _. ⌜ Takes (text .step) (text .taken (now (self .entry))) (text .left (now (self .entry))) (text .held (now (self .entry))) digit (text .taken (now (self .exit))) (text .left (now (self .exit))) (text .held (now (self .exit))) ⌝ }
+    {
+        self.buffer[self.taken as usize] = b'0' + digit;
+        self.taken += 1;
     }
 }
 
@@ -52,8 +64,7 @@ pub impl<'a> DigitSink for TextSink<'a> as TextDigitSink {
         if left == 0 {
             return Answer::Full;
         }
-        self.buffer[self.taken as usize] = b'0' + digit;
-        self.taken += 1;
+        self.put(digit);
         if left == 1 {
             Answer::Enough
         } else {
