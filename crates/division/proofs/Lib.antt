@@ -1,3 +1,4 @@
+pub mod Lost
 pub mod Decimals
 pub mod Due
 pub mod Fed
@@ -5,3 +6,4 @@ pub mod Places
 pub mod Runs
 pub mod Tests
 pub mod Trial
+pub mod Serving

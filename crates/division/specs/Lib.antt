@@ -6,6 +6,7 @@ pub mod Laws
 pub mod Order
 pub mod Resume
 pub mod Runs
+pub mod Serve
 pub mod Sink
 pub mod Sinks
 pub mod Whole

@@ -6,6 +6,7 @@ mod digit;
 pub mod fault;
 pub mod fraction;
 pub mod law;
+pub mod serve;
 pub mod sink;
 pub mod state;
 pub mod text;

@@ -76,3 +76,10 @@ pub enum Integral<T> {
     // The whole part has ended.
     Ended { state: DivisionState<T> },
 }
+
+// A division wherever it stands.
+#[derive(Drop)]
+pub enum Division<T> {
+    Whole { state: IntegralState<T> },
+    Fraction { state: DivisionState<T> },
+}
