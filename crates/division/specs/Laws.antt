@@ -70,8 +70,8 @@ pub record No-digit-lost : Type 0 where
 
 -- Worked cases: the next digit and the rest after it, also where ten times the rest passes 65535; a whole part of two
 -- digits; a fraction that ends and one that does not.
-abbrev pub Cases : Type 0
-Cases =
+abbrev pub Worked-cases : Type 0
+Worked-cases =
     (digits 65535 65533 0 1 ≡ 9 ∷ []) × (rest 65535 65533 0 1 ≡ 65515)
     × (digits 65535 58981 0 1 ≡ 8 ∷ []) × (rest 65535 58981 0 1 ≡ 65530)
     × (digits 2 30 2 1 ≡ 1 ∷ []) × (rest 2 30 2 1 ≡ 10)

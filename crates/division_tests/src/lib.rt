@@ -2,6 +2,8 @@
 #[cfg(test)]
 mod fraction;
 #[cfg(test)]
+mod serve;
+#[cfg(test)]
 mod sinks;
 #[cfg(test)]
 mod whole;
