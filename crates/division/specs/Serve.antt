@@ -1,7 +1,7 @@
 -- A division wherever it stands, and sinks that it serves one after another.
 use mathlib.Core.Path.{_≡_}
 use mathlib.Core.List.{List, [], _∷_}
-use Prim.Native.Nat.{ℕ, _<_, _≤_}
+use Prim.Native.Nat.{ℕ, _*_, _^_, _<_, _≤_}
 use Rattle.std.specs.declared.result.Result.{Result}
 use Rattle.std.specs.declared.result.Result.the-variants.{Ok, Err}
 use Rattle.generic.specs.Refusals.{refuses}
@@ -13,7 +13,6 @@ use Rattle.division.specs.declared.fault.DivisionFault.{DivisionFault}
 use Rattle.division.specs.declared.sink.DigitSink.{Ghosts}
 use Rattle.division.specs.declared.state.Division.{Division}
 use Rattle.division.specs.declared.state.Division.the-variants.{Whole, Fraction}
-use Rattle.division.specs.declared.state.DivisionState.{DivisionState}
 use Rattle.division.specs.declared.state.IntegralState.{IntegralState}
 
 -- Its divisor, its rest, which in the fraction is the remainder, and its place, which in the fraction is 0.
@@ -61,7 +60,8 @@ pub record Steps {X S : Type 0} (number : X → ℕ) (most : ℕ) (sink : Ghosts
   pub divisor : divisor-of after ≡ divisor-of before
   pub sound : Sound-division number most after
 
--- A run of calls takes a division on and serves the sinks with it, from ss to ts.
+-- A run of calls takes a division on and serves the sinks with it, from ss to ts. A division that can go on gives them its next
+-- digits, and one that is refused changes neither them nor itself.
 pub record Served {X S : Type 0} (number : X → ℕ) (most : ℕ) (sink : Ghosts S) (before : Division X) (ss ts : List S) (after : Division X) : Type 0 where
   pub calls : List Call
   pub serves : Serves sink calls ss ts
@@ -70,6 +70,12 @@ pub record Served {X S : Type 0} (number : X → ℕ) (most : ℕ) (sink : Ghost
   pub place : last-place (place-of before) calls ≡ place-of after
   pub divisor : divisor-of after ≡ divisor-of before
   pub sound : Sound-division number most after
+  pub leading :
+      number (rest-of before) < 10 ^ (place-of before) * number (divisor-of before)
+      → Leading (number (rest-of before)) (number (divisor-of before)) (place-of before) calls
+  pub refused :
+      place-of before ≡ 0 → number (divisor-of before) ≤ number (rest-of before)
+      → Stands-still (number (divisor-of before)) (number (rest-of before)) calls
 
 -- What serving the sinks with n over d comes to: refused with 7 exactly when d is 0, and no sink has then changed; else the
 -- division from all its w whole digits on, whose leading digits the sinks took.
@@ -78,10 +84,3 @@ Served-whole number most sink n d ss ts (Err f) = (number d ≡ 0) × (refusal f
 Served-whole {X} number most sink n d ss ts (Ok after) =
     (start : IntegralState X) × (start .rest ≡ n) × (start .divisor ≡ d) × Width (number n) (number d) (start .place)
     × (run : Served number most sink (Whole start) ss ts after) × Leading (number n) (number d) (start .place) (run .calls)
-
--- What serving the sinks with a division begun with the remainder r and the divisor d comes to.
-abbrev pub Served-fraction : {X S : Type 0} → (X → ℕ) → ℕ → Ghosts S → DivisionState X → List S → List S → Division X → Type 0
-Served-fraction number most sink start ss ts after =
-    (run : Served number most sink (Fraction start) ss ts after)
-    × (number (start .remainder) < number (start .divisor) → Leading (number (start .remainder)) (number (start .divisor)) 0 (run .calls))
-    × (number (start .divisor) ≤ number (start .remainder) → Stands-still (number (start .divisor)) (number (start .remainder)) (run .calls))

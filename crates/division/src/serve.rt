@@ -1,6 +1,7 @@
 // Sinks served one after another by one division.
 ghost use Rattle.division.specs.Laws.{No-digit-lost};
-ghost use Rattle.division.specs.Serve.{Sound-division, Steps, Served, Served-whole, Served-fraction};
+ghost use Rattle.division.specs.Serve.{Sound-division, Steps, Served, Served-whole};
+ghost use Rattle.division.specs.declared.state.Division.the-variants.{Fraction};
 use crate::fault::DivisionFault;
 use crate::fraction::divide_rem_resume;
 use crate::sink::DigitSink;
@@ -22,21 +23,34 @@ pub fn serve<T: GenericInteger + CountingNumber, S: DigitSink>(
     ensures law { λ _. ⌜ No-digit-lost ⌝ }
     ensures run { λ a. ⌜ Served-whole number greatest S·DigitSink n d (now (sinks .entry)) (now (sinks .exit)) a ⌝ }
 {
-    match open(n, d) {
-        Ok(state) => Ok(serve_on(Division::Whole { state }, sinks)),
-        Err(fault) => Err(fault),
-    }
+    serve_whole(n, d, sinks)
 }
 
 // The same with a division begun without a whole part. Where 7 or 8 refuses its calls, no sink and no number changes.
 pub fn serve_rem<T: GenericInteger + CountingNumber, S: DigitSink>(
-    state: DivisionState<T>,
+    remainder: T,
+    divisor: T,
     sinks: &mut [S],
 ) -> Division<T>
     ensures law { λ _. ⌜ No-digit-lost ⌝ }
-    ensures run { λ a. ⌜ Served-fraction number greatest S·DigitSink state (now (sinks .entry)) (now (sinks .exit)) a ⌝ }
+    ensures run { λ a. ⌜ Served number greatest S·DigitSink (Fraction (record { remainder = remainder; divisor = divisor })) (now (sinks .entry)) (now (sinks .exit)) a ⌝ }
 {
+    let state = DivisionState::new(remainder, divisor);
     serve_on(Division::Fraction { state }, sinks)
+}
+
+fn serve_whole<T: GenericInteger + CountingNumber, S: DigitSink>(
+    n: T,
+    d: T,
+    sinks: &mut [S],
+) -> Result<Division<T>, DivisionFault>
+    ensures law { λ _. ⌜ No-digit-lost ⌝ }
+    ensures run { λ a. ⌜ Served-whole number greatest S·DigitSink n d (now (sinks .entry)) (now (sinks .exit)) a ⌝ }
+{
+    match open(n, d) {
+        Ok(state) => Ok(serve_on(Division::Whole { state }, sinks)),
+        Err(fault) => Err(fault),
+    }
 }
 
 // One call on a division, wherever it stands.
@@ -69,7 +83,8 @@ fn serve_on<T: GenericInteger + CountingNumber, S: DigitSink>(
     sinks: &mut [S],
 ) -> Division<T>
     requires { ⌜ Sound-division number greatest start ⌝ }
-    ensures { λ a. ⌜ Served number greatest S·DigitSink start (now (sinks .entry)) (now (sinks .exit)) a ⌝ }
+    ensures law { λ _. ⌜ No-digit-lost ⌝ }
+    ensures run { λ a. ⌜ Served number greatest S·DigitSink start (now (sinks .entry)) (now (sinks .exit)) a ⌝ }
 {
     let mut division = start;
     for i in 0..sinks.len() {

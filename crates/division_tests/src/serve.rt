@@ -8,7 +8,6 @@ use division::serve::serve;
 use division::serve::serve_rem;
 use division::sink::DigitSink;
 use division::state::Division;
-use division::state::DivisionState;
 use generic::machine16::U16CountingNumber;
 use generic::machine16::U16GenericInteger;
 use std::test::*;
@@ -53,7 +52,7 @@ fn zero_divisor() -> Result<(), Fail> {
 #[test]
 fn not_below() -> Result<(), Fail> {
     let mut sinks = [Counter::new(3), Counter::new(1)];
-    match serve_rem(DivisionState::new(7u16, 7u16), &mut sinks) {
+    match serve_rem(7u16, 7u16, &mut sinks) {
         Division::Fraction { state } => {
             check_eq(sinks[0].taken(), 0)?;
             check_eq(sinks[1].left(), 1)?;

@@ -6,6 +6,7 @@ use Prim.Native.Nat.{ℕ, _+_, _<_, _≤_}
 use lib.ListN.{length, take, getD, set}
 use lib.Seq.{getD-set-other}
 use Rattle.std.proofs.shelf.Lists.{take-all, take-more, take-more-set}
+use Rattle.division.proofs.Lost.{no-digit-lost}
 use Rattle.division.proofs.Serving.{served-none, served-more}
 use Rattle.division.proofs.serve.serve_on.Needs as need
 
@@ -35,4 +36,4 @@ pub returns : need.returns
 returns g c =
     let olds : take (c .loop-i .i) (c .args .sinks .now) ≡ c .args .sinks .now = take-all (c .loop-i .i) (c .args .sinks .now) (omega arith) in
     let news : take (c .loop-i .i) (c .loop-i .sinks) ≡ c .loop-i .sinks = take-all (c .loop-i .i) (c .loop-i .sinks) (omega arith) in
-    rw (olds, news) at (c .loop-i .inv .0)
+    record { law = no-digit-lost; run = rw (olds, news) at (c .loop-i .inv .0) }
