@@ -2,11 +2,12 @@
 use mathlib.Core.Path.{_≡_, refl, sym, ap, _∙_, subst}
 use mathlib.Core.Logic.{inl, inr}
 use Prim.Native.Nat.{ℕ, zero, suc, _+_, _*_, _/_, _%_, _^_, _-_, _≤_, _<_}
-use native.Mathlib.Nat.{mod-eq-of-lt}
+use native.Mathlib.Nat.{mod-eq-of-lt, mul-le-mul-right, mul-comm}
 use native.Mathlib.Omega.{arith}
 use lib.Bits.{bitAnd, bitXor, and-le-r}
 use lib.Dec.{eqb}
 use Rattle.std.specs.Orderings.{Decides}
+use Rattle.std.proofs.shelf.Bits.{div-mul-add, mod-mul-add}
 use Rattle.std.proofs.shelf.Tests.{cases-lt, eqb-true, eq-eqb}
 use Rattle.packed.specs.Digits.{nibble, AllDigits, decimal}
 use Rattle.packed.proofs.Carries.{changed, whole, whole-sixteen, Added, added, Subtracted, subtracted}
@@ -125,3 +126,27 @@ tells-zero w all small = (
         | inr no-digit ↦ eq-eqb w 0 (omega arith)
       ],
 )
+
+-- one digit is its own word
+zero-fifteen : decimal 15 0 ≡ 0
+unfolding decimal
+zero-fifteen = refl
+
+pub digit-word : (d : ℕ) → d ≤ 9 → AllDigits 16 d × (decimal 16 d ≡ d)
+digit-word d small =
+    let above : d / 16 ≡ 0 = omega arith in (
+      digits-cons 15 d (omega arith) (λ i h. rw above (omega arith)),
+      omega (arith, decimal-cons 15 d, ap (decimal 15) above, zero-fifteen),
+    )
+
+-- a quotient and a remainder, by what they come to together
+pub divided : (n d q r : ℕ) → r < d → q * d + r ≡ n → (q ≡ n / d) × (r ≡ n % d)
+divided n d q r small sum = (
+  sym (ap (λ x. x / d) (sym sum) ∙ div-mul-add q d r small),
+  sym (ap (λ x. x % d) (sym sum) ∙ mod-mul-add q d r small),
+)
+
+-- what goes into fewer than ten times d goes in fewer than ten times
+pub few : (n d t r : ℕ) → n < d * 10 → t * d + r ≡ n → t ≤ 9
+few n d t r below sum =
+    elim (cases-lt t 10) [ inl less ↦ omega arith | inr more ↦ absurd (omega (arith, mul-le-mul-right d more, mul-comm d 10)) ]

@@ -1,6 +1,7 @@
 // Order, sums, differences and tenfolds of packed decimals, on whole words.
+ghost use mathlib.Core.Bool.{true};
 ghost use mathlib.Core.Path.{_≡_};
-ghost use Prim.Native.Nat.{_+_, _-_, _*_, _≤_, _<_};
+ghost use Prim.Native.Nat.{_+_, _-_, _*_, _/_, _%_, _≤_, _<_};
 ghost use Rattle.std.specs.Orderings.{Decides, Ranked};
 ghost use Rattle.generic.specs.Exact.{Exactly};
 ghost use Rattle.packed.specs.Digits.{decimal};
@@ -65,5 +66,31 @@ impl PackedDecimal {
         Some(PackedDecimal {
             word: self.word << 4,
         })
+    }
+
+    // Whether the quotient by a divisor that is not 0 is below ten.
+    pub(super) fn below_ten_times(self, by: PackedDecimal) -> bool
+        ensures { λ r. ⌜ (r ≡ true → decimal 16 (self .word) < decimal 16 (by .word) * 10) ⌝ }
+    {
+        match by.tenfold() {
+            Some(tenfold) => self.word < tenfold.word,
+            None => true,
+        }
+    }
+
+    // The quotient, which is below ten, and the remainder: by subtraction, which leaves the digits packed.
+    pub(super) fn few_times(self, by: PackedDecimal) -> (PackedDecimal, PackedDecimal)
+        requires some { ⌜ 0 < decimal 16 (by .word) ⌝ }
+        requires few { ⌜ decimal 16 (self .word) < decimal 16 (by .word) * 10 ⌝ }
+        ensures quotient { λ r. ⌜ decimal 16 (r .0 .word) ≡ decimal 16 (self .word) / decimal 16 (by .word) ⌝ }
+        ensures remainder { λ r. ⌜ decimal 16 (r .1 .word) ≡ decimal 16 (self .word) % decimal 16 (by .word) ⌝ }
+    {
+        let mut times = 0;
+        let mut rest = self;
+        while let Some(less) = rest.difference(by) {
+            rest = less;
+            times += 1;
+        }
+        (PackedDecimal { word: times }, rest)
     }
 }

@@ -76,16 +76,19 @@ pub impl GenericInteger for PackedDecimal as PackedGenericInteger {
         Some(PackedDecimal::pack(quotient))
     }
 
-    // A number below the divisor is the remainder as it stands.
+    // A number below the divisor is the remainder as it stands, and a quotient below ten leaves the digits packed.
     fn div_rem(self, by: PackedDecimal) -> Option<(PackedDecimal, PackedDecimal)> {
         if self.word < by.word {
             return Some((PackedDecimal::zero(), self));
         }
-        let n = self.number();
-        let d = by.number();
-        if d == 0 {
+        if by.all_zero() {
             return None;
         }
+        if self.below_ten_times(by) {
+            return Some(self.few_times(by));
+        }
+        let n = self.number();
+        let d = by.number();
         Some((PackedDecimal::pack(n / d), PackedDecimal::pack(n % d)))
     }
 
