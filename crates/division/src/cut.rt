@@ -21,7 +21,8 @@ impl<S: DigitSink> Cut<S> {
     }
 
     pub fn into_below(self) -> S
-        ensures { λ r. ⌜ r ≡ self .below ⌝ }
+        ensures stands { λ r. ⌜ (taken r ≡ cut S·DigitSink .taken self) × (held r ≡ cut S·DigitSink .held self) ⌝ }
+        ensures below { λ r. ⌜ r ≡ self .below ⌝ }
     {
         let Cut { below, limit: _ } = self;
         below

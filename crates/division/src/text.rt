@@ -2,7 +2,8 @@
 ghost use mathlib.Core.Path.{_≡_};
 ghost use Prim.Native.Nat.{_<_, min};
 ghost use denote.Ref.{now, name};
-ghost use lib.ListN.{length};
+ghost use lib.ListN.{length, take};
+ghost use Rattle.division.specs.Digits.{ascii-number};
 ghost use Rattle.division.specs.Sink.{Takes};
 ghost use Rattle.division.specs.Sinks.{text, Stands};
 use crate::sink::Answer;
@@ -23,7 +24,8 @@ impl<'a> TextSink<'a> {
     }
 
     pub fn finish(self) -> &'a mut [u8]
-        ensures { λ r. ⌜ now r ≡ now (self .entry .buffer) ⌝ }
+        ensures buffer { λ r. ⌜ (now r ≡ now (self .entry .buffer)) × (name r ≡ name (self .entry .buffer)) ⌝ }
+        ensures number { λ r. ⌜ ascii-number (take (text .taken (self .entry)) (now r)) ≡ text .held (self .entry) ⌝ }
     {
         let TextSink { buffer, taken: _ } = self;
         buffer
