@@ -1,5 +1,7 @@
 // The fraction of a division.
+ghost use mathlib.Core.Path.{_≡_};
 ghost use Prim.Native.Nat.{ℕ, _<_};
+ghost use Rattle.std.specs.Vec.{refused};
 ghost use Rattle.division.specs.Expansion.{Went, coming};
 ghost use Rattle.division.specs.Resume.{Resumes};
 use crate::certain::below;
@@ -47,6 +49,7 @@ pub fn divide_rem_resume<T: GenericInteger + CountingNumber, S: DigitSink>(
 ) -> Result<Resumed<T>, Refused<T>>
     ensures resumes { λ a. ⌜ Resumes number step (state .remainder) (state .divisor) (taken (now (sink .entry))) (left (now (sink .entry))) (held (now (sink .entry))) (taken (now (sink .exit))) (left (now (sink .exit))) (held (now (sink .exit))) a ⌝ }
     ensures on { λ _. ⌜ on (now (sink .entry)) (now (sink .exit)) ⌝ }
+    ensures unchanged { λ a. ⌜ refused a (λ _. now (sink .exit) ≡ now (sink .entry)) ⌝ }
 {
     if state.divisor.is_zero() {
         return Err(Refused {
@@ -75,6 +78,7 @@ pub fn divide_rem<T: GenericInteger + CountingNumber, S: DigitSink>(
 ) -> Result<Resumed<T>, Refused<T>>
     ensures resumes { λ a. ⌜ Resumes number step remainder divisor (taken (now (sink .entry))) (left (now (sink .entry))) (held (now (sink .entry))) (taken (now (sink .exit))) (left (now (sink .exit))) (held (now (sink .exit))) a ⌝ }
     ensures on { λ _. ⌜ on (now (sink .entry)) (now (sink .exit)) ⌝ }
+    ensures unchanged { λ a. ⌜ refused a (λ _. now (sink .exit) ≡ now (sink .entry)) ⌝ }
 {
     divide_rem_resume(DivisionState::new(remainder, divisor), sink)
 }
