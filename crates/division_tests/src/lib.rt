@@ -8,3 +8,4 @@ mod serve;
 mod sinks;
 #[cfg(test)]
 mod whole;
+pub mod written;
