@@ -1,0 +1,4 @@
+pub mod Faults
+pub mod Lowest
+pub mod Meaning
+pub mod Made
