@@ -1,5 +1,5 @@
 -- Dividing by the greatest common divisor gives the lowest terms. Assumes nothing.
-use mathlib.Core.Path.{_≡_, refl, sym, _∙_, ap, subst}
+use mathlib.Core.Path.{_≡_, sym, _∙_, ap, subst}
 use Prim.Native.Nat.{ℕ, zero, suc, _*_, _/_, _<_, _∣_}
 use native.Mathlib.Nat.{one-dvd, dvd-of-mul-dvd-mul-right, mul-dvd-mul-right, pos-of-dvd-of-pos, div-mul-cancel, mul-comm, mul-assoc, one-mul, zero-mul}
 use native.Mathlib.Omega.{arith}
@@ -22,9 +22,9 @@ parts-lowest n d a b g en ed h common =
         right = one-dvd b;
         greatest = λ e p q.
             let both : e * g ∣ g =
-                common .greatest (e * g)
-                  (subst (λ x. e * g ∣ x) en (mul-dvd-mul-right e p g))
-                  (subst (λ x. e * g ∣ x) ed (mul-dvd-mul-right e q g)) in
+            common .greatest (e * g)
+            (subst (λ x. e * g ∣ x) en (mul-dvd-mul-right e p g))
+            (subst (λ x. e * g ∣ x) ed (mul-dvd-mul-right e q g)) in
             dvd-of-mul-dvd-mul-right {k = g} e {n = 1} (pos-of-dvd-of-pos (common .right) h) (subst (λ x. e * g ∣ x) (sym (one-mul g)) both);
       };
     }
@@ -35,7 +35,3 @@ quotients-lowest n d g h common =
 
 pub divisor-positive : (n d g : ℕ) → 0 < d → GreatestDivisor g n d → 0 < g
 divisor-positive n d g h common = pos-of-dvd-of-pos (common .right) h
-
-pub already-lowest : (n d g : ℕ) → g ≡ 1 → 0 < d → GreatestDivisor g n d → Lowest n d n d
-already-lowest n d g one h common =
-    record { positive = h; same = refl; reduced = subst (λ x. GreatestDivisor x n d) one common }

@@ -18,6 +18,10 @@ Made s n d (rational s' n' d') = (0 < d) × (s' ≡ s) × Lowest n d n' d'
 Made s n d (infinity s') = (d ≡ 0) × (0 < n) × (s' ≡ s)
 Made s n d nan = (d ≡ 0) × (n ≡ 0)
 
+-- Nothing else can be made of n over d with the sign s: m is fixed.
+abbrev pub Only : Sign → ℕ → ℕ → Meaning → Type 0
+Only s n d m = (other : Meaning) → Made s n d other → other ≡ m
+
 -- n over d with the sign s, as they are where d is above 0, and refused with 7 exactly where it is 0.
 abbrev pub MadeRaw : {X : Type 0} → (X → ℕ) → Sign → ℕ → ℕ → Result (GenericFraction X) FractionFault → Type 0
 MadeRaw number s n d (Ok f) = (0 < d) × (meant number f ≡ rational s n d)

@@ -55,8 +55,3 @@ abbrev pub Infinite : Meaning → Type 0
 Infinite (rational s n d) = ⊥
 Infinite (infinity s) = Unit {0}
 Infinite nan = ⊥
-
-abbrev pub Nan : Meaning → Type 0
-Nan (rational s n d) = ⊥
-Nan (infinity s) = ⊥
-Nan nan = Unit {0}

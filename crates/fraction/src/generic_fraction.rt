@@ -5,8 +5,8 @@ ghost use Rattle.std.specs.Orderings.{Decides};
 ghost use Rattle.std.specs.Vec.{made};
 ghost use Rattle.generic.specs.declared.sign.Sign.the-variants.{Plus, Minus};
 ghost use Rattle.fraction.specs.Lowest.{Lowest};
-ghost use Rattle.fraction.specs.Made.{Made, MadeRaw};
-ghost use Rattle.fraction.specs.Meaning.{rational, infinity, nan, meant, Sound, numerator, denominator, signed, told, Zero, Infinite, Nan};
+ghost use Rattle.fraction.specs.Made.{Made, MadeRaw, Only};
+ghost use Rattle.fraction.specs.Meaning.{rational, infinity, nan, meant, Sound, numerator, denominator, signed, told, Zero, Infinite};
 use crate::fault::FractionFault;
 use generic::counting::CountingNumber;
 use generic::divisor::gcd;
@@ -65,6 +65,7 @@ impl<T: GenericInteger + CountingNumber> GenericFraction<T> {
     // The sign and num over den, in lowest terms; NaN for 0 over 0, and an infinity for the rest over 0.
     fn new_signed(sign: Sign, num: T, den: T) -> GenericFraction<T>
         ensures made { λ r. ⌜ Made sign (number num) (number den) (meant number r) ⌝ }
+        ensures only { λ r. ⌜ Only sign (number num) (number den) (meant number r) ⌝ }
         ensures sound { λ r. ⌜ Sound (meant number r) ⌝ }
     {
         if !den.is_zero() {
@@ -78,6 +79,7 @@ impl<T: GenericInteger + CountingNumber> GenericFraction<T> {
 
     pub fn new(num: T, den: T) -> GenericFraction<T>
         ensures made { λ r. ⌜ Made Plus (number num) (number den) (meant number r) ⌝ }
+        ensures only { λ r. ⌜ Only Plus (number num) (number den) (meant number r) ⌝ }
         ensures sound { λ r. ⌜ Sound (meant number r) ⌝ }
     {
         Self::new_signed(Sign::Plus, num, den)
@@ -85,6 +87,7 @@ impl<T: GenericInteger + CountingNumber> GenericFraction<T> {
 
     pub fn new_neg(num: T, den: T) -> GenericFraction<T>
         ensures made { λ r. ⌜ Made Minus (number num) (number den) (meant number r) ⌝ }
+        ensures only { λ r. ⌜ Only Minus (number num) (number den) (meant number r) ⌝ }
         ensures sound { λ r. ⌜ Sound (meant number r) ⌝ }
     {
         Self::new_signed(Sign::Minus, num, den)
@@ -209,7 +212,7 @@ impl<T: GenericInteger + CountingNumber> GenericFraction<T> {
     }
 
     pub fn is_nan(&self) -> bool
-        ensures { λ r. ⌜ Decides r (Nan (meant number (now (self .entry)))) ⌝ }
+        ensures { λ r. ⌜ Decides r (meant number (now (self .entry)) ≡ nan) ⌝ }
     {
         match *self {
             GenericFraction::Rational(_, _) => false,
