@@ -1,12 +1,11 @@
 // Fractions of integers, with a sign, the two infinities and what is no number.
 ghost use mathlib.Core.Path.{_≡_};
 ghost use Prim.Native.Nat.{_/_, _<_};
-ghost use Rattle.std.specs.Orderings.{Decides};
 ghost use Rattle.std.specs.Vec.{made};
 ghost use Rattle.generic.specs.declared.sign.Sign.the-variants.{Plus, Minus};
 ghost use Rattle.fraction.specs.Lowest.{Lowest};
 ghost use Rattle.fraction.specs.Made.{Made, MadeRaw, Only};
-ghost use Rattle.fraction.specs.Meaning.{rational, infinity, nan, meant, Sound, numerator, denominator, signed, told, Zero, Infinite};
+ghost use Rattle.fraction.specs.Meaning.{meant, Sound};
 use crate::fault::FractionFault;
 use generic::counting::CountingNumber;
 use generic::divisor::gcd;
@@ -15,6 +14,9 @@ use generic::sign::Sign;
 use generic::sign::SignDebug;
 use generic::sign::SignPartialEq;
 use std::cmp::Ordering;
+
+mod constants;
+mod reading;
 
 // The numbers of a fraction. Only this module makes one, and never over 0.
 #[derive(Clone, Copy, PartialEq, Eq, Debug)]
@@ -116,118 +118,6 @@ impl<T: GenericInteger + CountingNumber> GenericFraction<T> {
                     denom: den,
                 },
             ))
-        }
-    }
-
-    pub fn zero() -> GenericFraction<T>
-        ensures means { λ r. ⌜ meant number r ≡ rational Plus 0 1 ⌝ }
-        ensures sound { λ r. ⌜ Sound (meant number r) ⌝ }
-    {
-        Self::over_one(Sign::Plus, T::zero())
-    }
-
-    pub fn neg_zero() -> GenericFraction<T>
-        ensures means { λ r. ⌜ meant number r ≡ rational Minus 0 1 ⌝ }
-        ensures sound { λ r. ⌜ Sound (meant number r) ⌝ }
-    {
-        Self::over_one(Sign::Minus, T::zero())
-    }
-
-    pub fn nan() -> GenericFraction<T>
-        ensures means { λ r. ⌜ meant number r ≡ nan ⌝ }
-        ensures sound { λ r. ⌜ Sound (meant number r) ⌝ }
-    {
-        GenericFraction::NaN
-    }
-
-    pub fn infinity() -> GenericFraction<T>
-        ensures means { λ r. ⌜ meant number r ≡ infinity Plus ⌝ }
-        ensures sound { λ r. ⌜ Sound (meant number r) ⌝ }
-    {
-        GenericFraction::Infinity(Sign::Plus)
-    }
-
-    pub fn neg_infinity() -> GenericFraction<T>
-        ensures means { λ r. ⌜ meant number r ≡ infinity Minus ⌝ }
-        ensures sound { λ r. ⌜ Sound (meant number r) ⌝ }
-    {
-        GenericFraction::Infinity(Sign::Minus)
-    }
-
-    // A whole number.
-    fn over_one(sign: Sign, num: T) -> GenericFraction<T>
-        ensures means { λ r. ⌜ meant number r ≡ rational sign (number num) 1 ⌝ }
-        ensures sound { λ r. ⌜ Sound (meant number r) ⌝ }
-    {
-        GenericFraction::Rational(
-            sign,
-            Ratio {
-                numer: num,
-                denom: T::one(),
-            },
-        )
-    }
-
-    // None for an infinity and for NaN.
-    pub fn numer(&self) -> Option<T>
-        ensures { λ r. ⌜ told number r ≡ numerator (meant number (now (self .entry))) ⌝ }
-    {
-        match *self {
-            GenericFraction::Rational(_, ratio) => Some(ratio.numer),
-            GenericFraction::Infinity(_) => None,
-            GenericFraction::NaN => None,
-        }
-    }
-
-    // None for an infinity and for NaN.
-    pub fn denom(&self) -> Option<T>
-        ensures { λ r. ⌜ told number r ≡ denominator (meant number (now (self .entry))) ⌝ }
-    {
-        match *self {
-            GenericFraction::Rational(_, ratio) => Some(ratio.denom),
-            GenericFraction::Infinity(_) => None,
-            GenericFraction::NaN => None,
-        }
-    }
-
-    // None for NaN.
-    pub fn sign(&self) -> Option<Sign>
-        ensures { λ r. ⌜ r ≡ signed (meant number (now (self .entry))) ⌝ }
-    {
-        match *self {
-            GenericFraction::Rational(sign, _) => Some(sign),
-            GenericFraction::Infinity(sign) => Some(sign),
-            GenericFraction::NaN => None,
-        }
-    }
-
-    pub fn is_zero(&self) -> bool
-        ensures { λ r. ⌜ Decides r (Zero (meant number (now (self .entry)))) ⌝ }
-    {
-        match *self {
-            GenericFraction::Rational(_, ratio) => ratio.numer.is_zero(),
-            GenericFraction::Infinity(_) => false,
-            GenericFraction::NaN => false,
-        }
-    }
-
-    pub fn is_nan(&self) -> bool
-        ensures { λ r. ⌜ Decides r (meant number (now (self .entry)) ≡ nan) ⌝ }
-    {
-        match *self {
-            GenericFraction::Rational(_, _) => false,
-            GenericFraction::Infinity(_) => false,
-            GenericFraction::NaN => true,
-        }
-    }
-
-    pub fn is_infinite(&self) -> bool
-        ensures { λ r. ⌜ Decides r (Infinite (meant number (now (self .entry)))) ⌝ }
-    {
-        match *self {
-            GenericFraction::Rational(_, _) => false,
-            GenericFraction::Infinity(_) => true,
-            GenericFraction::NaN => false,
         }
     }
 }
