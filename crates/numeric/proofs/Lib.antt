@@ -1,0 +1,5 @@
+pub mod Amount
+pub mod Cut
+pub mod Faithful
+pub mod Least
+pub mod Numbers

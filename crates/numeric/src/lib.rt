@@ -1,0 +1,2 @@
+// The layout of PostgreSQL's binary NUMERIC.
+pub mod law;
