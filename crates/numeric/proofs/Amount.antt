@@ -1,22 +1,22 @@
 -- The amount of the package of Q in units of 10^(-s) is Q over 10^s.
-use mathlib.Core.Path.{_≡_, refl, sym, ap, subst, subst₂, _∙_}
-use mathlib.Core.Bool.{Bool, true, false, cond}
+use mathlib.Core.Path.{_≡_, sym, ap, subst, subst₂, _∙_}
+use mathlib.Core.Bool.{cond}
 use mathlib.Core.Logic.{⊎-elim}
-use mathlib.Core.List.{List, [], _∷_, _++_}
-use Prim.Native.Nat.{ℕ, zero, suc, _+_, _-_, _*_, _/_, _%_, _^_, _≤_, _<_, min}
+use mathlib.Core.List.{List, [], _∷_}
+use Prim.Native.Nat.{ℕ, zero, suc, _+_, _-_, _*_, _/_, _^_, _≤_, _<_, min}
 use native.Mathlib.Omega.{arith}
-use native.Mathlib.Nat.{mul-assoc, mul-comm, mul-one, mul-add, add-mul, zero-mul, one-le-pow, mul-right-comm, eq-of-mul-eq-mul-right, le-of-mul-le-mul-right, mul-lt-mul-of-pos-right, mul-le-mul-right, div-mul-le-self, lt-div-mul-add, div-lt-iff-lt-mul}
+use native.Mathlib.Nat.{mul-assoc, mul-comm, mul-one, add-mul, zero-mul, one-le-pow, mul-right-comm, eq-of-mul-eq-mul-right, le-of-mul-le-mul-right, mul-lt-mul-of-pos-right, mul-le-mul-right, div-mul-le-self, lt-div-mul-add, div-lt-iff-lt-mul}
 use lib.Pow.{pow-add}
 use lib.Dec.{eqb}
 use lib.IntN.{ℤ, pos, negsuc}
-use lib.ListN.{length, take, drop, length-append, length-drop, length-take}
+use lib.ListN.{length, length-drop, length-take}
 use Rattle.std.specs.shelf.Digits.{number}
 use Rattle.std.specs.shelf.Lists.{leading, ending}
 use Rattle.std.proofs.shelf.Lists.{nil-from-length}
 use Rattle.std.proofs.shelf.Sums.{leading-le-length, ending-le-length}
 use Rattle.std.proofs.shelf.Tests.{cases-eq, cases-lt, eq-eqb, ne-eqb, cond-true, cond-false}
 use Rattle.numeric.specs.Cut.{cut}
-use Rattle.numeric.specs.Package.{Package, Reaches, exponent, amount-from, amount, Enough, fours, width, is-zero, whole-groups, filled, all-groups, no-leading, no-trailing, digits-in, groups-of, weight-of, package-of}
+use Rattle.numeric.specs.Package.{Reaches, exponent, amount-from, amount, Enough, fours, is-zero, whole-groups, filled, all-groups, no-leading, no-trailing, groups-of, weight-of, package-of}
 use Rattle.numeric.proofs.Numbers.{number-cons, length-digits-in, number-digits-in, number-no-leading, number-no-trailing, pow-fours}
 use Rattle.numeric.proofs.Least.{width-above, width-none, width-some}
 
@@ -207,13 +207,13 @@ some-below Q s z i lt =
     let short : length (no-leading all) ≡ fours s - k = length-drop k all ∙ omega arith in
     omega arith
 
-some-above : (Q s k : ℕ) (gs : List ℕ) → (Q / 10 ^ s ≡ 0 → ⊥) → length gs ≤ length (all-groups Q s) → (i : ℕ) → i < length gs → Reaches (pos (whole-groups Q s - 1)) (fours s) i
-some-above Q s k gs nz le i lt = omega (arith, length-all Q s, whole-groups-some Q s nz)
+some-above : (Q s : ℕ) (gs : List ℕ) → (Q / 10 ^ s ≡ 0 → ⊥) → length gs ≤ length (all-groups Q s) → (i : ℕ) → i < length gs → Reaches (pos (whole-groups Q s - 1)) (fours s) i
+some-above Q s gs nz le i lt = omega (arith, length-all Q s, whole-groups-some Q s nz)
 
 pub some-unit : (sign Q s : ℕ) → Enough (package-of sign Q s) (fours s)
 some-unit sign Q s =
     let all : List ℕ = all-groups Q s in
     by-cases (λ w gs. (i : ℕ) → i < length gs → Reaches w (fours s) i) Q s
     (some-below Q s)
-    (λ nz z. some-above Q s 0 (no-trailing all) nz (omega (arith, length-take (length all - ending is-zero all) all)))
-    (λ nz r. some-above Q s 0 all nz (omega arith))
+    (λ nz z. some-above Q s (no-trailing all) nz (omega (arith, length-take (length all - ending is-zero all) all)))
+    (λ nz r. some-above Q s all nz (omega arith))

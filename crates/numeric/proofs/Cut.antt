@@ -1,13 +1,13 @@
 -- The scale is the length of the division's expansion, up to the precision; a cut fraction keeps its whole part.
-use mathlib.Core.Path.{_≡_, refl, sym, ap, subst, _∙_}
+use mathlib.Core.Path.{_≡_, sym, ap, _∙_}
 use mathlib.Core.Logic.{⊎-elim}
-use Prim.Native.Nat.{ℕ, zero, suc, _+_, _-_, _*_, _/_, _%_, _^_, _≤_, _<_}
+use Prim.Native.Nat.{ℕ, zero, suc, _+_, _*_, _/_, _%_, _^_, _<_}
 use native.Mathlib.Omega.{arith}
-use native.Mathlib.Nat.{mul-one, mul-assoc, mul-comm, mul-add, pow-succ', div-add-mod', mul-add-mod-self-right, div-div-eq-div-mul, mul-div-mul-right, one-le-pow}
+use native.Mathlib.Nat.{mul-one, mul-assoc, pow-succ', div-add-mod', mul-add-mod-self-right, div-div-eq-div-mul, mul-div-mul-right, one-le-pow}
 use Rattle.std.proofs.shelf.Tests.{cases-order, cases-lt}
 use Rattle.division.specs.Expansion.{rest, coming}
 use Rattle.division.proofs.Decimals.{lesser}
-use Rattle.numeric.specs.Cut.{cut, scale-of, Scale, Ends}
+use Rattle.numeric.specs.Cut.{cut, scale-of, Scale}
 
 ten-times : (m d : ℕ) → 10 * (m % d) % d ≡ m * 10 % d
 ten-times m d =

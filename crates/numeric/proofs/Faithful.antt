@@ -1,20 +1,17 @@
 -- Every written package is faithful.
 use mathlib.Core.Path.{_≡_, refl, sym, ap, subst, _∙_}
-use mathlib.Core.Bool.{cond}
-use mathlib.Core.Logic.{⊎-elim}
 use mathlib.Core.List.{List, [], _∷_, _++_}
-use Prim.Native.Nat.{ℕ, zero, suc, _+_, _-_, _*_, _/_, _%_, _^_, _≤_, _<_}
+use Prim.Native.Nat.{ℕ, zero, suc, _+_, _-_, _*_, _/_, _%_, _^_, _<_}
 use native.Mathlib.Omega.{arith}
-use native.Mathlib.Nat.{zero-mul, zero-mod, zero-div, mod-lt, mul-one, one-le-pow, mul-pos}
+use native.Mathlib.Nat.{zero-mul, zero-mod, zero-div, mod-lt, one-le-pow, mul-pos}
 use lib.Dec.{eqb}
 use lib.ListN.{length, take, drop}
 use Rattle.std.specs.shelf.Digits.{Under}
 use Rattle.std.specs.shelf.Lists.{leading, ending}
 use Rattle.std.proofs.shelf.Tests.{cond-both, eqb-true, eqb-false}
 use Rattle.generic.specs.declared.sign.Sign.{Sign}
-use Rattle.fraction.specs.Meaning.{rational}
-use Rattle.numeric.specs.Cut.{cut, Scale, scale-of}
-use Rattle.numeric.specs.Package.{Package, amount, Enough, precision-in-force, written, package-of, cut-package, sign-word, plus-word, bare, digits-in, groups-of, weight-of, all-groups, no-leading, no-trailing, whole-groups, fours, filled, is-zero}
+use Rattle.numeric.specs.Cut.{cut, scale-of}
+use Rattle.numeric.specs.Package.{Package, amount, precision-in-force, written, package-of, cut-package, sign-word, plus-word, bare, digits-in, groups-of, all-groups, whole-groups, fours, filled, is-zero}
 use Rattle.numeric.specs.Faithful.{Faithful, Writing-faithful}
 use Rattle.numeric.proofs.Cut.{scale-is}
 use Rattle.numeric.proofs.Amount.{exact, not-above, less-than-a-unit, some-unit, by-cases}

@@ -3,3 +3,4 @@ pub mod Cut
 pub mod Faithful
 pub mod Least
 pub mod Numbers
+pub mod Whole

@@ -1,20 +1,18 @@
 -- Numbers in a base: leading and trailing zeros, digits of a fixed count, powers of 10 and of 10000.
-use mathlib.Core.Path.{_≡_, refl, sym, ap, subst, _∙_}
-use mathlib.Core.Bool.{Bool, true, false, cond}
-use mathlib.Core.Logic.{_⊎_, inl, inr, ⊎-elim}
+use mathlib.Core.Path.{_≡_, refl, sym, ap, _∙_}
+use mathlib.Core.Logic.{⊎-elim}
 use mathlib.Core.List.{List, [], _∷_, _++_, reverse}
-use Prim.Native.Nat.{ℕ, zero, suc, _+_, _-_, _*_, _/_, _%_, _^_, _≤_, _<_, min}
+use Prim.Native.Nat.{ℕ, zero, suc, _+_, _-_, _*_, _/_, _%_, _^_, _≤_, _<_}
 use native.Mathlib.Omega.{arith}
-use native.Mathlib.Nat.{pow-zero, pow-suc, pow-succ', mul-assoc, mul-comm, mul-one, add-mul, zero-mul, zero-add, add-zero, mod-lt, div-add-mod', mul-le-mul-right, one-le-pow}
+use native.Mathlib.Nat.{pow-zero, pow-suc, pow-succ', mul-assoc, mul-one, add-mul, zero-mul, zero-add, div-add-mod', mul-le-mul-right}
 use native.Mathlib.Numerals.{add-one}
 use lib.Pow.{pow-add}
-use lib.ListN.{length, take, drop, replicate, length-append, length-replicate, length-drop}
-use Rattle.std.specs.shelf.Digits.{numberAfter, number, Under}
+use lib.ListN.{length, take, drop, replicate, length-append, length-replicate}
+use Rattle.std.specs.shelf.Digits.{numberAfter, number}
 use Rattle.std.specs.shelf.Lists.{leading, ending}
 use Rattle.std.proofs.shelf.Digits.{numberAfter-append, number-push}
-use Rattle.std.proofs.shelf.Bits.{div-mul-add, mod-mul-add, div-below}
-use Rattle.std.proofs.shelf.Lists.{append-assoc, append-nil, take-at, reverse-append, reverse-reverse, replicate-more, length-reverse}
-use Rattle.std.proofs.shelf.Sums.{leading-le-length, ending-le-length}
+use Rattle.std.proofs.shelf.Bits.{div-below}
+use Rattle.std.proofs.shelf.Lists.{take-at, reverse-append, reverse-reverse, replicate-more}
 use Rattle.std.proofs.shelf.Tests.{eqb-true, cases-bool, cond-true, cond-false}
 use lib.Dec.{eqb}
 use Rattle.numeric.specs.Package.{digits-in, is-zero, no-leading, no-trailing}
@@ -56,23 +54,6 @@ number-digits-in b zero n h l = omega (arith, pow-zero b)
 number-digits-in b (suc k) n h l =
     let small : n / b < b ^ k = div-below n b (b ^ k) h (omega (arith, pow-suc b k)) in
     number-push b (digits-in b k (n / b)) (n % b) ∙ omega (arith, ap (λ x. x * b) (number-digits-in b k (n / b) h small), div-add-mod' n b)
-
--- one digit more
-pub digits-in-push : (b k n g : ℕ) → g < b → digits-in b (suc k) (n * b + g) ≡ digits-in b k n ++ (g ∷ [])
-digits-in-push b k n g l = ap (λ x. digits-in b k x ++ ((n * b + g) % b ∷ [])) (div-mul-add n b g l) ∙ ap (λ x. digits-in b k n ++ (x ∷ [])) (mod-mul-add n b g l)
-
-pub digits-in-after : (b k n : ℕ) (ys : List ℕ) → Under b ys → digits-in b (k + length ys) (numberAfter b n ys) ≡ digits-in b k n ++ ys
-digits-in-after b k n [] u = ap (λ x. digits-in b x n) (add-zero k) ∙ sym (append-nil (digits-in b k n))
-digits-in-after b k n (y ∷ ys) u =
-    let on : k + suc (length ys) ≡ suc k + length ys = omega arith in
-    ap (λ x. digits-in b x (numberAfter b (n * b + y) ys)) on
-    ∙ digits-in-after b (suc k) (n * b + y) ys (u .1)
-    ∙ ap (λ x. x ++ ys) (digits-in-push b k n y (u .0))
-    ∙ append-assoc (digits-in b k n) (y ∷ []) ys
-
--- a list of digits is the digits of its number
-pub digits-in-number : (b : ℕ) (ys : List ℕ) → Under b ys → digits-in b (length ys) (number b ys) ≡ ys
-digits-in-number b ys u = ap (λ x. digits-in b x (number b ys)) (sym (zero-add (length ys))) ∙ digits-in-after b 0 0 ys u
 
 -- ZEROS LEFT OUT
 

@@ -3,9 +3,10 @@ use mathlib.Core.Path.{_≡_}
 use mathlib.Core.List.{List, [], _∷_}
 use Prim.Native.Nat.{ℕ}
 use lib.IntN.{ℤ, pos, negsuc}
+use lib.ListN.{replicate}
 use Rattle.generic.specs.declared.sign.Sign.{Sign}
 use Rattle.generic.specs.declared.sign.Sign.the-variants.{Plus, Minus}
-use Rattle.fraction.specs.Meaning.{Meaning, rational}
+use Rattle.fraction.specs.Meaning.{rational}
 use Rattle.numeric.specs.Bytes.{package-bytes}
 use Rattle.numeric.specs.Package.{Package, sign-word, written}
 
@@ -46,5 +47,9 @@ table =
 abbrev pub third : List ℕ
 third = 0x00 ∷ 0x01 ∷ 0xff ∷ 0xff ∷ 0x00 ∷ 0x00 ∷ 0x00 ∷ 0x04 ∷ 0x0d ∷ 0x05 ∷ []
 
+-- A minus zero is eight zero bytes too.
 abbrev pub Worked-depths : Type 0
-Worked-depths = Right table × (package-bytes (written (rational Plus 1 3) 4) ≡ third)
+Worked-depths =
+    Right table
+    × (package-bytes (written (rational Plus 1 3) 4) ≡ third)
+    × (package-bytes (written (rational Minus 0 1) 4) ≡ replicate 8 0)
