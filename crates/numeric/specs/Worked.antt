@@ -7,7 +7,7 @@ use lib.ListN.{replicate}
 use Rattle.generic.specs.declared.sign.Sign.the-variants.{Plus, Minus}
 use Rattle.fraction.specs.Meaning.{Meaning, rational, infinity, nan}
 use Rattle.numeric.specs.Bytes.{package-bytes}
-use Rattle.numeric.specs.Package.{Package, written}
+use Rattle.numeric.specs.Package.{Package, precision-in-force, written}
 
 pub record Row : Type 0 where
   pub depth : Meaning
@@ -44,9 +44,10 @@ table =
 abbrev pub third : List ℕ
 third = 0x00 ∷ 0x01 ∷ 0xff ∷ 0xff ∷ 0x00 ∷ 0x00 ∷ 0x00 ∷ 0x04 ∷ 0x0d ∷ 0x05 ∷ []
 
--- A minus zero is eight zero bytes too.
+-- The table, the bytes of a third and of a minus zero, and the greatest precision in force.
 abbrev pub Worked-depths : Type 0
 Worked-depths =
     Right table
     × (package-bytes (written (rational Plus 1 3) 4) ≡ third)
     × (package-bytes (written (rational Minus 0 1) 4) ≡ replicate 8 0)
+    × (precision-in-force 16383 ≡ 16383) × (precision-in-force 16384 ≡ 16383)

@@ -6,4 +6,4 @@ use Rattle.numeric.proofs.law.worked_depths.Needs as need
 
 pub returns : need.returns
 unfolding width scale-of groups-of weight-of written
-returns c = ((refl, (refl, (refl, (refl, (refl, (refl, (refl, (refl, (refl, (refl, (refl, (refl, (refl, tt))))))))))))), refl, refl)
+returns c = ((refl, (refl, (refl, (refl, (refl, (refl, (refl, (refl, (refl, (refl, (refl, (refl, (refl, tt))))))))))))), refl, refl, refl, refl)
