@@ -1,6 +1,6 @@
 // The output line of a record, put into a page of text.
 ghost use mathlib.Core.Path.{_≡_};
-ghost use Prim.Native.Nat.{_+_, _*_, _≤_, _<_};
+ghost use Prim.Native.Nat.{_+_, _*_, _≤_};
 ghost use lib.ListN.{length};
 use crate::plain;
 use record::verdict::Verdict;

@@ -1,7 +1,7 @@
 -- The digits of an expansion form the quotient, and as many come as are wanted and there are.
 use mathlib.Core.Path.{_≡_, refl, sym, ap, _∙_}
-use Prim.Native.Nat.{ℕ, zero, suc, _+_, _-_, _*_, _/_, _%_, _^_, _<_, _≤_}
-use native.Mathlib.Nat.{zero-mul, mul-zero, zero-add, mul-one, one-mul, mul-add, add-mul, mul-assoc, mul-comm, mul-left-comm, pow-succ', div-add-mod', mod-lt}
+use Prim.Native.Nat.{ℕ, zero, suc, _+_, _-_, _*_, _/_, _%_, _^_, _<_}
+use native.Mathlib.Nat.{zero-mul, mul-zero, zero-add, mul-one, one-mul, mul-add, add-mul, mul-assoc, mul-left-comm, pow-succ', div-add-mod', mod-lt}
 use native.Mathlib.Omega.{arith}
 use Rattle.division.specs.Digits.{fed, shifted}
 use Rattle.division.specs.Expansion.{digits, rest, coming}

@@ -4,7 +4,7 @@ use mathlib.Core.List.{List, [], _∷_, _++_}
 use Prim.Native.Nat.{ℕ, _+_, _-_, _<_}
 use native.Mathlib.Nat.{add-sub-cancel-left}
 use native.Mathlib.Omega.{arith}
-use lib.ListN.{length, length-set, take, set, getD}
+use lib.ListN.{length, length-set, take, set}
 use lib.Seq.{getD-set-same, getD-set-other}
 use Rattle.division.specs.Order.{Text-on}
 use Rattle.std.proofs.shelf.Lists.{take-more-set}

@@ -1,13 +1,11 @@
 -- No run of calls loses a digit.
 use mathlib.Core.Path.{_≡_, refl, sym, ap, _∙_}
 use mathlib.Core.List.{List}
-use Prim.Native.Nat.{ℕ, _+_, _-_, _*_, _^_, _<_, _≤_}
+use Prim.Native.Nat.{ℕ, _-_, _*_, _^_, _<_}
 use native.Mathlib.Nat.{one-mul, mul-one}
 use native.Mathlib.Omega.{arith}
-use Rattle.division.specs.Digits.{fed, shifted}
-use Rattle.division.specs.Expansion.{digits, rest}
-use Rattle.division.specs.Laws.{Goes-on, Leading, No-digit-lost}
-use Rattle.division.specs.Runs.{Call, Run, total, last-rest}
+use Rattle.division.specs.Laws.{Leading, No-digit-lost}
+use Rattle.division.specs.Runs.{Call, Run, total}
 use Rattle.division.proofs.Decimals.{decimal, lesser}
 use Rattle.division.proofs.Runs.{one-expansion}
 

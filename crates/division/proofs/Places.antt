@@ -1,10 +1,10 @@
 -- Places of the whole part.
-use mathlib.Core.Path.{_≡_, refl, sym, ap, _∙_}
+use mathlib.Core.Path.{_≡_, sym, ap, _∙_}
 use mathlib.Core.Logic.{inl, inr}
-use Prim.Native.Nat.{ℕ, zero, suc, _+_, _-_, _*_, _/_, _%_, _^_, _<_, _≤_, min}
-use native.Mathlib.Nat.{pow-succ', pow-zero, pow-le-pow-right, mul-assoc, mul-le-mul-left, mul-one, one-mul, mul-add-div, div-lt-iff-lt-mul}
+use Prim.Native.Nat.{ℕ, zero, suc, _-_, _*_, _/_, _^_, _<_, _≤_}
+use native.Mathlib.Nat.{pow-succ', pow-le-pow-right, mul-assoc, mul-le-mul-left, mul-one, div-lt-iff-lt-mul}
 use native.Mathlib.Omega.{arith}
-use lib.Dec.{lit<, lit≤}
+use lib.Dec.{lit<}
 use Rattle.std.proofs.shelf.Tests.{cases-lt}
 use Rattle.division.specs.Whole.{Sound, Width}
 

@@ -2,7 +2,7 @@
 use mathlib.Core.Path.{_≡_, refl, sym, ap, _∙_, subst}
 use mathlib.Core.List.{List, [], _∷_, _++_}
 use Prim.Native.Nat.{ℕ}
-use Rattle.division.specs.Runs.{Kind, whole, fraction, refused, Call, Made, Run, seen, last-rest, last-place}
+use Rattle.division.specs.Runs.{Kind, refused, Call, Made, Run, seen, last-rest, last-place}
 use Rattle.division.specs.Serve.{divisor-of, rest-of, place-of, Sound-division, Seen, Serves, Steps, Served}
 use Rattle.division.specs.declared.sink.DigitSink.{Ghosts}
 use Rattle.division.specs.declared.state.Division.{Division}

@@ -3,7 +3,7 @@
 -- p digits of the whole part are still to come, and then those of the fraction.
 use mathlib.Core.Path.{_≡_}
 use mathlib.Core.List.{List, [], _∷_}
-use Prim.Native.Nat.{ℕ, zero, suc, _+_, _-_, _*_, _/_, _%_, _^_, _<_}
+use Prim.Native.Nat.{ℕ, zero, suc, _+_, _-_, _*_, _/_, _%_, _^_}
 use Rattle.division.specs.Digits.{fed}
 
 -- The next k digits.

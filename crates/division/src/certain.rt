@@ -1,6 +1,6 @@
 // Operations whose callers know that the result has a place.
 ghost use mathlib.Core.Path.{_≡_};
-ghost use Prim.Native.Nat.{ℕ, _+_, _*_, _/_, _%_, _<_, _≤_};
+ghost use Prim.Native.Nat.{_+_, _*_, _/_, _%_, _<_, _≤_};
 ghost use Rattle.std.specs.Orderings.{Decides};
 use generic::counting::CountingNumber;
 use generic::integer::GenericInteger;

@@ -1,5 +1,4 @@
 // A sink that only counts.
-ghost use mathlib.Core.Path.{_≡_};
 ghost use Rattle.division.specs.Sinks.{counter, Stands};
 use crate::sink::Answer;
 use crate::sink::DigitSink;

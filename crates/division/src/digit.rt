@@ -1,6 +1,6 @@
 // The next digit of a fraction.
 ghost use mathlib.Core.Path.{_≡_};
-ghost use Prim.Native.Nat.{ℕ, _*_, _/_, _%_, _<_, _≤_};
+ghost use Prim.Native.Nat.{_*_, _/_, _%_, _<_};
 use crate::certain::below;
 use crate::certain::byte;
 use crate::certain::difference;

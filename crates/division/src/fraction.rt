@@ -1,6 +1,6 @@
 // The fraction of a division.
 ghost use mathlib.Core.Path.{_≡_};
-ghost use Prim.Native.Nat.{ℕ, _<_};
+ghost use Prim.Native.Nat.{_<_};
 ghost use Rattle.std.specs.Vec.{refused};
 ghost use Rattle.division.specs.Expansion.{Went, coming};
 ghost use Rattle.division.specs.Resume.{Resumes};

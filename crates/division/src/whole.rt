@@ -1,6 +1,6 @@
 // The whole part of a division.
 ghost use mathlib.Core.Path.{_≡_};
-ghost use Prim.Native.Nat.{ℕ, _-_, _*_, _^_, _<_, _≤_};
+ghost use Prim.Native.Nat.{_-_, _*_, _^_, _<_};
 ghost use Rattle.division.specs.Whole.{Sound-state, Begun, Opens, Integrates, Follows};
 use crate::certain::below;
 use crate::certain::byte;

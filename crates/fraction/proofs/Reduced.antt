@@ -1,4 +1,4 @@
--- Dividing by the greatest common divisor gives the lowest terms. Assumes nothing.
+-- Dividing by the greatest common divisor gives the lowest terms.
 use mathlib.Core.Path.{_≡_, sym, _∙_, ap, subst}
 use Prim.Native.Nat.{ℕ, zero, suc, _*_, _/_, _<_, _∣_}
 use native.Mathlib.Nat.{one-dvd, dvd-of-mul-dvd-mul-right, mul-dvd-mul-right, pos-of-dvd-of-pos, div-mul-cancel, mul-comm, mul-assoc, one-mul, zero-mul}

@@ -1,4 +1,4 @@
--- A fraction has one form in lowest terms, so what is made of a sign and two numbers is fixed. Assumes nothing.
+-- A fraction has one form in lowest terms, so what is made of a sign and two numbers is fixed.
 use mathlib.Core.Path.{_≡_, refl, sym, _∙_, ap, subst}
 use Prim.Native.Nat.{ℕ, zero, suc, _+_, _*_, _/_, _%_, _<_, _∣_}
 use native.Mathlib.Nat.{dvd-refl, dvd-zero, dvd-add, dvd-add-iff-right, dvd-mul-left, dvd-mul-right, dvd-mul-left-of-dvd, dvd-antisymm, eq-one-of-dvd-one, div-add-mod', mod-lt, add-mul, mul-assoc, mul-right-comm, one-mul, eq-of-mul-eq-mul-right}

@@ -1,4 +1,4 @@
--- Euclid's algorithm keeps the common divisors. Assumes nothing.
+-- Euclid's algorithm keeps the common divisors.
 use mathlib.Core.Path.{_≡_, sym, subst}
 use Prim.Native.Nat.{ℕ, _+_, _*_, _/_, _%_, _∣_}
 use native.Mathlib.Nat.{dvd-refl, dvd-zero, dvd-add, dvd-add-iff-right, dvd-mul-left-of-dvd, div-add-mod'}

@@ -1,6 +1,6 @@
 // Integers for generic code: each operation is exact, and None exactly where the result has no place in the type.
 ghost use mathlib.Core.Path.{_≡_};
-ghost use Prim.Native.Nat.{ℕ, _+_, _-_, _*_, _/_, _%_, _^_, _≤_, _<_};
+ghost use Prim.Native.Nat.{_-_, _*_, _/_, _≤_, _<_};
 ghost use Rattle.generic.specs.Exact.{Exactly, Divided};
 use crate::counting::CountingNumber;
 

@@ -1,10 +1,10 @@
--- Sums and differences of words of digits, all digits at once. Assumes nothing.
-use mathlib.Core.Path.{_≡_, refl, sym, ap, _∙_, subst}
+-- Sums and differences of words of digits, all digits at once.
+use mathlib.Core.Path.{_≡_, sym, ap, _∙_, subst}
 use Prim.Native.Nat.{ℕ, zero, suc, _+_, _*_, _/_, _%_, _^_, _-_, _≤_, _<_}
 use native.Mathlib.Nat.{pow-suc, div-div-eq-div-mul, mul-assoc, mul-comm, mod-eq-of-lt, add-mul-mod-self-right}
 use native.Mathlib.Omega.{arith}
 use lib.Bits.{bitAnd, bitXor, xor-shr, xor-add-and, and-zero-r}
-use Rattle.packed.specs.Digits.{nibble, AllDigits, decimal}
+use Rattle.packed.specs.Digits.{AllDigits, decimal}
 use Rattle.packed.proofs.Decimals.{decimal-none}
 use Rattle.packed.proofs.Lowest.{digits-cons, digits-head, digits-tail, decimal-cons, lowest-bits, pick-lowest}
 

@@ -1,12 +1,10 @@
--- What the digits of a word come to. Assumes nothing.
+-- What the digits of a word come to.
 use mathlib.Core.Path.{_≡_, refl, sym, ap, _∙_}
 use mathlib.Core.Logic.{_⊎_, inl, inr}
 use Prim.Native.Nat.{ℕ, zero, suc, _+_, _*_, _/_, _%_, _^_, _-_, _≤_, _<_}
-use native.Mathlib.Nat.{mod-eq-of-lt, pow-suc, pow-le-pow-right, mul-le-mul-right, add-mul, add-mul-div-right, add-mul-mod-self-right, mul-assoc, mul-comm, div-add-mod'}
-use borrow.Author.Count.{below-more}
-use native.Mathlib.Numerals.{add-one}
+use native.Mathlib.Nat.{mod-eq-of-lt, pow-suc, mul-le-mul-right, add-mul, add-mul-div-right, add-mul-mod-self-right, mul-assoc}
 use native.Mathlib.Omega.{arith}
-use Rattle.std.proofs.shelf.Bits.{pow-pos, pow-add, shr-shr, shr-below, mod-pow-add, div-mul-add, mod-below}
+use Rattle.std.proofs.shelf.Bits.{pow-pos, pow-add, mod-pow-add, mod-below}
 use Rattle.std.proofs.shelf.Ways.{leb-tells}
 use Rattle.std.specs.Orderings.{Ranked}
 use Rattle.std.specs.declared.cmp.Ordering.{Ordering}

@@ -1,14 +1,14 @@
--- Which fours of bits of a word are above 9, all at once. Assumes nothing.
-use mathlib.Core.Path.{_≡_, refl, sym, ap, _∙_}
+-- Which fours of bits of a word are above 9, all at once.
+use mathlib.Core.Path.{_≡_, ap, _∙_}
 use mathlib.Core.Logic.{inl, inr}
-use Prim.Native.Nat.{ℕ, zero, suc, _+_, _*_, _/_, _%_, _^_, _≤_, _<_, min, max}
+use Prim.Native.Nat.{ℕ, zero, suc, _+_, _*_, _/_, _%_, _≤_, _<_, min, max}
 use native.Mathlib.Nat.{div-div-eq-div-mul}
 use native.Mathlib.Omega.{arith}
 use lib.Bits.{bitAnd, bitOr, and-step, or-step, and-shr, or-shr, and-zero-r}
 use lib.Dec.{eqb}
 use Rattle.std.specs.Orderings.{Decides}
 use Rattle.std.proofs.shelf.Tests.{eqb-true, eq-eqb, cases-lt}
-use Rattle.packed.specs.Digits.{nibble, AllDigits}
+use Rattle.packed.specs.Digits.{AllDigits}
 use Rattle.packed.proofs.Lowest.{digits-cons, digits-head, digits-tail, lowest-bits, pick-lowest}
 
 -- in the lowest bit of each four: whether its 8 stands together with its 4 or its 2

@@ -1,12 +1,12 @@
--- A word of digits by its low and its high digits. Assumes nothing.
-use mathlib.Core.Path.{_≡_, refl, sym, ap, _∙_, subst}
-use mathlib.Core.Logic.{_⊎_, inl, inr}
+-- A word of digits by its low and its high digits.
+use mathlib.Core.Path.{_≡_, sym, ap, _∙_, subst}
+use mathlib.Core.Logic.{inl, inr}
 use Prim.Native.Nat.{ℕ, zero, suc, _+_, _*_, _/_, _%_, _^_, _-_, _≤_, _<_}
-use native.Mathlib.Nat.{add-suc, add-zero, add-mul, mul-assoc, div-add-mod', mod-eq-of-lt, mod-lt}
+use native.Mathlib.Nat.{add-suc, add-zero, add-mul, mul-assoc, div-add-mod'}
 use native.Mathlib.Omega.{arith}
-use Rattle.std.proofs.shelf.Bits.{pow-pos, pow-add, shr-shr, shl-below, div-mul-add, mul-le}
+use Rattle.std.proofs.shelf.Bits.{pow-add, shr-shr, div-mul-add, mul-le}
 use Rattle.std.proofs.shelf.Tests.{cases-lt}
-use Rattle.packed.specs.Digits.{nibble, AllDigits, decimal, Writes}
+use Rattle.packed.specs.Digits.{nibble, decimal, Writes}
 use Rattle.packed.proofs.Decimals.{decimal-same, nibble-low}
 
 -- a place above place j is a place of what stands above j

@@ -1,15 +1,15 @@
--- Words of sixteen digits: sums, differences, tenfolds and order. Assumes nothing.
+-- Words of sixteen digits: sums, differences, tenfolds and order.
 use mathlib.Core.Path.{_≡_, refl, sym, ap, _∙_, subst}
 use mathlib.Core.Logic.{inl, inr}
-use Prim.Native.Nat.{ℕ, zero, suc, _+_, _*_, _/_, _%_, _^_, _-_, _≤_, _<_}
+use Prim.Native.Nat.{ℕ, _+_, _*_, _/_, _%_, _^_, _-_, _≤_, _<_}
 use native.Mathlib.Nat.{mod-eq-of-lt, mul-le-mul-right, mul-comm}
 use native.Mathlib.Omega.{arith}
-use lib.Bits.{bitAnd, bitXor, and-le-r}
+use lib.Bits.{bitXor, and-le-r}
 use lib.Dec.{eqb}
 use Rattle.std.specs.Orderings.{Decides}
 use Rattle.std.proofs.shelf.Bits.{div-mul-add, mod-mul-add}
 use Rattle.std.proofs.shelf.Tests.{cases-lt, eqb-true, eq-eqb}
-use Rattle.packed.specs.Digits.{nibble, AllDigits, decimal}
+use Rattle.packed.specs.Digits.{AllDigits, decimal}
 use Rattle.packed.proofs.Carries.{changed, whole, whole-sixteen, Added, added, Subtracted, subtracted}
 use Rattle.packed.proofs.Decimals.{decimal-lt, decimal-order}
 use Rattle.packed.proofs.Lowest.{digits-cons, decimal-cons}

@@ -1,4 +1,4 @@
--- What a word of packed digits comes to, from whether each is a decimal digit. Assumes nothing.
+-- What a word of packed digits comes to, from whether each is a decimal digit.
 use mathlib.Core.Path.{_≡_}
 use mathlib.Core.Logic.{inl, inr}
 use Prim.Native.Nat.{ℕ}

@@ -1,7 +1,6 @@
-use mathlib.Core.Path.{_≡_, refl, sym, _∙_}
-use Prim.Native.Nat.{ℕ, _+_, _-_, _*_, _/_, _%_, _<_, _≤_}
+use mathlib.Core.Path.{_≡_, refl, _∙_}
+use Prim.Native.Nat.{ℕ, _+_, _-_, _*_, _/_, _≤_}
 use native.Mathlib.Omega.{arith}
-use Rattle.division.proofs.Tests.{not-below}
 use Rattle.division.proofs.Trial.{Trial, start, start-divisor, start-rest, owed-small, trial-less, trial-rest, trial-done}
 use Rattle.division.proofs.digit.corrected_step.Needs as need
 use Rattle.division.proofs.digit.corrected_step.Needs.{At-trial}

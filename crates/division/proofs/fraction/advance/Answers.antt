@@ -1,6 +1,4 @@
-use mathlib.Core.Path.{_≡_, refl, _∙_}
-use Prim.Native.Nat.{_<_, _*_, _/_, _%_}
-use native.Mathlib.Omega.{arith}
+use mathlib.Core.Path.{refl}
 use Rattle.division.proofs.Due.{due-first, due-fraction, due-same, due-none, coming-full, coming-over}
 use Rattle.division.proofs.Tests.{not-zero}
 use Rattle.division.proofs.fraction.advance.Needs as need

@@ -1,8 +1,8 @@
-use mathlib.Core.Path.{_≡_, refl, sym, ap, _∙_}
-use Prim.Native.Nat.{ℕ, _+_, _-_, _*_, _/_, _%_, _^_, _<_, _≤_}
+use mathlib.Core.Path.{ap, _∙_}
+use Prim.Native.Nat.{_-_}
 use native.Mathlib.Omega.{arith}
 use Rattle.division.proofs.Places.{digit-small}
-use Rattle.division.proofs.Due.{due-first, due-whole, due-same, due-none}
+use Rattle.division.proofs.Due.{due-whole}
 use Rattle.division.proofs.whole.advance.Needs as need
 
 pub byte-requires : need.byte-requires

@@ -1,4 +1,4 @@
-use Prim.Native.Nat.{_<_, min}
+use Prim.Native.Nat.{min}
 use mathlib.Core.Path.{_≡_}
 use Rattle.division.specs.Whole.{Sound-state}
 use Rattle.division.proofs.Due.{Due}

@@ -1,4 +1,3 @@
-use mathlib.Core.Path.{_≡_, sym, _∙_, ap}
 use borrow.Author.Needs.{needs}
 use Rattle.record.proofs.PackedWords.{packed-number, no-packed-number}
 use Rattle.record.proofs.kind.read_packed.Needs as need

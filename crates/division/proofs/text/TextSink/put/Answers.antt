@@ -1,6 +1,6 @@
-use Prim.Native.Nat.{ℕ, _+_, _<_, _≤_}
+use Prim.Native.Nat.{_+_}
 use native.Mathlib.Omega.{arith}
-use lib.ListN.{length, length-set}
+use lib.ListN.{length-set}
 use Rattle.division.proofs.Fed.{ascii-more, text-more}
 use Rattle.division.proofs.text.TextSink.put.Needs as need
 

@@ -1,7 +1,7 @@
 use native.Mathlib.Omega.{arith}
 use native.Mathlib.Nat.{add-mul}
-use mathlib.Core.Path.{_≡_, sym, _∙_}
-use Prim.Native.Nat.{_+_, _*_, _≤_, _<_}
+use mathlib.Core.Path.{_∙_}
+use Prim.Native.Nat.{_<_}
 use Rattle.packed.specs.Digits.{decimal}
 use Rattle.packed.proofs.Sixteen.{digit-word, divided, few}
 use Rattle.packed.proofs.packed_decimal.PackedDecimal.few_times.Needs as need

@@ -1,7 +1,6 @@
 use native.Mathlib.Omega.{arith}
-use mathlib.Core.Path.{_≡_, sym, ap, subst}
-use Prim.Native.Nat.{_*_, _%_, _^_, _≤_, _<_}
-use native.Mathlib.Nat.{mod-eq-of-lt}
+use mathlib.Core.Path.{_≡_, subst}
+use Prim.Native.Nat.{_*_, _%_, _^_, _<_}
 use Rattle.packed.specs.Digits.{AllDigits, decimal}
 use Rattle.packed.proofs.Decimals.{decimal-lt}
 use Rattle.packed.proofs.Sixteen.{tenfold-digits, tenfold-value, tenfold-passes}
