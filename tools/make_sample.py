@@ -1,8 +1,9 @@
 #!/usr/bin/env python3
 """Writes the sample that the gate runs depthpack on: crates/depthpack/stdin and crates/depthpack/stdout.
 
-Run it from the repository's root. Each row of the table is one record and the line that it comes to. The lines are worked
-out by hand from the writing rule, with a space between words; none is taken from the program.
+Run it from the repository's root. Each row of the table is one record and the line that it comes to. The lines were worked
+out by hand from the writing rule, with a space between words; none is taken from the program. Two slips in them were
+found and corrected by comparison with an independent model of the rule.
 """
 
 U16, U32, U64, PACKED = 1, 2, 3, 4
