@@ -5,7 +5,7 @@ use native.Mathlib.Nat.{zero-mul, mul-zero, zero-add, mul-one, one-mul, mul-add,
 use native.Mathlib.Omega.{arith}
 use Rattle.division.specs.Digits.{fed, shifted}
 use Rattle.division.specs.Expansion.{digits, rest, coming}
-use Rattle.division.specs.Laws.{Decimal, Lesser}
+use Rattle.division.specs.Laws.{Lesser}
 
 -- one digit off m, in units of u
 shift : (h u m : ℕ) → h * (10 * u) + m ≡ shifted h (m / u) * u + m % u
@@ -53,6 +53,14 @@ below d (suc j) m (suc p) h =
     let f : suc p - suc j ≡ p - j = omega arith in
     let u : 10 ^ suc p * d ≡ 10 * (10 ^ p * d) = ap (λ z. z * d) (pow-succ' 10 p) ∙ mul-assoc 10 (10 ^ p) d in
     rw f (below d j (m % (10 ^ p * d)) p (mod-lt m (omega arith)))
+
+-- After j digits Q is the number that they form. While j ≤ p it is m = Q × 10^(p-j) × d + rest, and past that
+-- m × 10^(j-p) = Q × d + rest, the rest below what Q counts: so Q is m × 10^(j-p) over 10^(p-j) × d, rounded down.
+abbrev pub Decimal : Type 0
+Decimal =
+    (d m p j : ℕ) → m < 10 ^ p * d
+    → (m * 10 ^ (j - p) ≡ fed shifted 0 (digits d m p j) * (10 ^ (p - j) * d) + rest d m p j)
+    × (rest d m p j < 10 ^ (p - j) * d)
 
 pub decimal : Decimal
 decimal d m p j h =

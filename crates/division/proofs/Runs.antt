@@ -7,12 +7,26 @@ use native.Mathlib.Omega.{arith}
 use lib.ListN.{length}
 use Rattle.division.specs.Expansion.{digits, rest, coming, Went}
 use Rattle.division.specs.Faults.{Cause}
-use Rattle.division.specs.Laws.{Goes-on, Stands-still, One-expansion}
-use Rattle.division.specs.Runs.{Kind, whole, fraction, refused, Call, Made-by, Run, total, Took, Goes}
+use Rattle.division.specs.Laws.{Stands-still}
+use Rattle.division.specs.Runs.{Kind, whole, fraction, refused, Call, Made-by, Run, total, last-rest, last-place, Took, Shared, Goes, Each-goes}
 use Rattle.division.specs.Sink.{Same}
 use Rattle.division.specs.declared.fault.DivisionFault.{DivisionFault}
 use Rattle.division.specs.declared.fault.DivisionFault.the-variants.{ZeroDivisor, RemainderNotBelow}
 use Rattle.division.proofs.Decimals.{below}
+
+-- From the rest m at the place p on: no call is refused, the sinks took the next digits, each once and in order, and the
+-- state handed back last is the one after them.
+pub record Goes-on (d m p : ℕ) (cs : List Call) : Type 0 where
+  pub kinds : Each-goes cs
+  pub shared : Shared (digits d m p (total cs)) cs
+  pub state : last-rest m cs ≡ rest d m p (total cs)
+  pub place : last-place p cs ≡ p - total cs
+
+-- Whatever the calls and their sinks: a division that stands for a rest below its whole goes on, and one in its fraction whose
+-- remainder is not below the divisor, 0 among the divisors, stands still.
+abbrev pub One-expansion : Type 0
+One-expansion =
+    (d m p : ℕ) (cs : List Call) → Run d m p cs → (m < 10 ^ p * d → Goes-on d m p cs) × (p ≡ 0 → d ≤ m → Stands-still d m cs)
 
 -- The place after k digits, by recursion.
 abbrev place : ℕ → ℕ → ℕ

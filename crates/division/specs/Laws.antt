@@ -7,34 +7,12 @@ use Rattle.division.specs.Expansion.{digits, rest, coming}
 use Rattle.division.specs.Runs.{Call, Run, total, last-rest, last-place, Shared, Each-goes, Each-refused}
 use Rattle.division.specs.Whole.{Width}
 
--- From the rest m at the place p on: no call is refused, the sinks took the next digits, each once and in order, and the
--- state handed back last is the one after them.
-pub record Goes-on (d m p : ℕ) (cs : List Call) : Type 0 where
-  pub kinds : Each-goes cs
-  pub shared : Shared (digits d m p (total cs)) cs
-  pub state : last-rest m cs ≡ rest d m p (total cs)
-  pub place : last-place p cs ≡ p - total cs
-
 -- Each call is refused, no sink took a digit, and the state handed back last is the first.
 pub record Stands-still (d m : ℕ) (cs : List Call) : Type 0 where
   pub kinds : Each-refused d m cs
   pub none : total cs ≡ 0
   pub state : last-rest m cs ≡ m
   pub place : last-place 0 cs ≡ 0
-
--- Whatever the calls and their sinks: a division that stands for a rest below its whole goes on, and one in its fraction whose
--- remainder is not below the divisor, 0 among the divisors, stands still.
-abbrev pub One-expansion : Type 0
-One-expansion =
-    (d m p : ℕ) (cs : List Call) → Run d m p cs → (m < 10 ^ p * d → Goes-on d m p cs) × (p ≡ 0 → d ≤ m → Stands-still d m cs)
-
--- After j digits Q is the number that they form. While j ≤ p it is m = Q × 10^(p-j) × d + rest, and past that
--- m × 10^(j-p) = Q × d + rest, the rest below what Q counts: so Q is m × 10^(j-p) over 10^(p-j) × d, rounded down.
-abbrev pub Decimal : Type 0
-Decimal =
-    (d m p j : ℕ) → m < 10 ^ p * d
-    → (m * 10 ^ (j - p) ≡ fed shifted 0 (digits d m p j) * (10 ^ (p - j) * d) + rest d m p j)
-    × (rest d m p j < 10 ^ (p - j) * d)
 
 -- The calls cs on a division of n by d with w whole digits. No call is refused. The sinks took the leading digits of n over d,
 -- each once and in order; j is their count, and Q the number that they form. The state handed back last has w - j whole digits
