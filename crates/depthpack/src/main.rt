@@ -1,4 +1,6 @@
 // depthpack: records of depths in, packages in hexadecimal out.
+#![tactic(auto)]
+
 mod failure;
 mod line;
 mod plain;

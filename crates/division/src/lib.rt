@@ -1,4 +1,6 @@
 // Long division of two numbers, digit by digit, into sinks that may stop and be followed by others.
+#![tactic(auto)]
+
 mod block;
 mod certain;
 pub mod counter;

@@ -1,3 +1,5 @@
 // Exact fractions with a sign of their own, and the values that are no number.
+#![tactic(auto)]
+
 pub mod fault;
 pub mod generic_fraction;

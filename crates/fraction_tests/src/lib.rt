@@ -1,4 +1,6 @@
 // Fractions worked by hand, run on the code.
+#![tactic(auto)]
+
 #[cfg(test)]
 mod made;
 #[cfg(test)]

@@ -1,4 +1,6 @@
 // The layout of PostgreSQL's binary NUMERIC.
+#![tactic(auto)]
+
 pub mod fault;
 pub mod law;
 pub mod layout;

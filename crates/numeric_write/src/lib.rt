@@ -1,4 +1,6 @@
 // Fractions written as packages of PostgreSQL's binary NUMERIC.
+#![tactic(auto)]
+
 pub mod group_sink;
 pub mod group_state;
 mod header;
