@@ -7,9 +7,9 @@ use crate::sink::{Answer, DigitSink};
 
 pub(crate) fn put<S: DigitSink>(sink: &mut S, digit: u8)
     requires digit { digit < 10 }
-    requires some { 0 < left sink.old }
-    ensures takes { Takes step (taken sink.old) (left sink.old) (held sink.old) digit (taken sink.new) (left sink.new) (held sink.new) }
-    ensures on { on sink.old sink.new }
+    requires some { 0 < S.left sink.old }
+    ensures takes { Takes S.step (S.taken sink.old) (S.left sink.old) (S.held sink.old) digit (S.taken sink.new) (S.left sink.new) (S.held sink.new) }
+    ensures on { S.on sink.old sink.new }
 {
     match sink.offer(digit) {
         Answer::More => {}
@@ -22,9 +22,9 @@ pub(crate) fn put<S: DigitSink>(sink: &mut S, digit: u8)
 // The four digits of a number below ten thousand, highest first, each from what those above it leave.
 pub(crate) fn put_four<S: DigitSink>(sink: &mut S, number: u16)
     requires number { number < 10_000 }
-    requires some { 4 ≤ left sink.old }
-    ensures takes { TakesAll step (taken sink.old) (left sink.old) (held sink.old) (digits 1 number 4 4) (taken sink.new) (left sink.new) (held sink.new) }
-    ensures on { on sink.old sink.new }
+    requires some { 4 ≤ S.left sink.old }
+    ensures takes { TakesAll S.step (S.taken sink.old) (S.left sink.old) (S.held sink.old) (digits 1 number 4 4) (S.taken sink.new) (S.left sink.new) (S.held sink.new) }
+    ensures on { S.on sink.old sink.new }
 {
     let hundreds = number % 1000;
     let tens = hundreds % 100;
@@ -40,9 +40,9 @@ fn put_group<S: DigitSink>(sink: &mut S, number: u16, count: u8)
     requires any { 0 < count }
     requires few { count ≤ 4 }
     requires number { number < 10 ^ count }
-    requires some { count ≤ left sink.old }
-    ensures takes { TakesAll step (taken sink.old) (left sink.old) (held sink.old) (digits 1 number count count) (taken sink.new) (left sink.new) (held sink.new) }
-    ensures on { on sink.old sink.new }
+    requires some { count ≤ S.left sink.old }
+    ensures takes { TakesAll S.step (S.taken sink.old) (S.left sink.old) (S.held sink.old) (digits 1 number count count) (S.taken sink.new) (S.left sink.new) (S.held sink.new) }
+    ensures on { S.on sink.old sink.new }
 {
     match count {
         1 => put(sink, number as u8),
@@ -90,9 +90,9 @@ pub(crate) fn put_all<S: DigitSink>(sink: &mut S, number: u64, count: u8)
     requires any { 0 < count }
     requires few { count ≤ 20 }
     requires number { number < 10 ^ count }
-    requires some { count ≤ left sink.old }
-    ensures takes { TakesAll step (taken sink.old) (left sink.old) (held sink.old) (digits 1 number count count) (taken sink.new) (left sink.new) (held sink.new) }
-    ensures on { on sink.old sink.new }
+    requires some { count ≤ S.left sink.old }
+    ensures takes { TakesAll S.step (S.taken sink.old) (S.left sink.old) (S.held sink.old) (digits 1 number count count) (S.taken sink.new) (S.left sink.new) (S.held sink.new) }
+    ensures on { S.on sink.old sink.new }
 {
     let mut groups = (count - 1) / 4;
     let (first, mut rest) = split(number, groups);

@@ -6,7 +6,7 @@ use generic::integer::GenericInteger;
 use std::cmp::Ordering;
 
 pub(crate) fn below<T: GenericInteger + CountingNumber>(a: T, b: T) -> bool
-    ensures { Decides result (number a < number b) }
+    ensures { Decides result (T.number a < T.number b) }
 {
     match a.compare(b) {
         Ordering::Less => true,
@@ -16,8 +16,8 @@ pub(crate) fn below<T: GenericInteger + CountingNumber>(a: T, b: T) -> bool
 }
 
 pub(crate) fn sum<T: GenericInteger + CountingNumber>(a: T, b: T) -> T
-    requires { number a + number b ≤ greatest }
-    ensures { number result ≡ number a + number b }
+    requires { T.number a + T.number b ≤ T.greatest }
+    ensures { T.number result ≡ T.number a + T.number b }
 {
     match a.checked_add(b) {
         Some(x) => x,
@@ -26,8 +26,8 @@ pub(crate) fn sum<T: GenericInteger + CountingNumber>(a: T, b: T) -> T
 }
 
 pub(crate) fn difference<T: GenericInteger + CountingNumber>(a: T, b: T) -> T
-    requires { number b ≤ number a }
-    ensures { number result + number b ≡ number a }
+    requires { T.number b ≤ T.number a }
+    ensures { T.number result + T.number b ≡ T.number a }
 {
     match a.checked_sub(b) {
         Some(x) => x,
@@ -36,8 +36,8 @@ pub(crate) fn difference<T: GenericInteger + CountingNumber>(a: T, b: T) -> T
 }
 
 pub(crate) fn product<T: GenericInteger + CountingNumber>(a: T, b: T) -> T
-    requires { number a * number b ≤ greatest }
-    ensures { number result ≡ number a * number b }
+    requires { T.number a * T.number b ≤ T.greatest }
+    ensures { T.number result ≡ T.number a * T.number b }
 {
     match a.checked_mul(b) {
         Some(x) => x,
@@ -47,8 +47,8 @@ pub(crate) fn product<T: GenericInteger + CountingNumber>(a: T, b: T) -> T
 
 // The quotient and the remainder.
 pub(crate) fn divided<T: GenericInteger + CountingNumber>(a: T, b: T) -> (T, T)
-    requires { 0 < number b }
-    ensures { (number result.0 ≡ number a / number b) × (number result.1 ≡ number a % number b) }
+    requires { 0 < T.number b }
+    ensures { (T.number result.0 ≡ T.number a / T.number b) × (T.number result.1 ≡ T.number a % T.number b) }
 {
     match a.div_rem(b) {
         Some(pair) => pair,
@@ -58,8 +58,8 @@ pub(crate) fn divided<T: GenericInteger + CountingNumber>(a: T, b: T) -> (T, T)
 
 // The quotient and the remainder of the word times a number below the divisor.
 pub(crate) fn share<T: GenericInteger + CountingNumber>(a: T, word: u16, b: T) -> (u16, T)
-    requires { number a < number b }
-    ensures { (result.0 ≡ word * number a / number b) × (number result.1 ≡ word * number a % number b) }
+    requires { T.number a < T.number b }
+    ensures { (result.0 ≡ word * T.number a / T.number b) × (T.number result.1 ≡ word * T.number a % T.number b) }
 {
     match a.scaled(word, b) {
         Some(pair) => pair,
@@ -68,8 +68,8 @@ pub(crate) fn share<T: GenericInteger + CountingNumber>(a: T, word: u16, b: T) -
 }
 
 pub(crate) fn byte<T: GenericInteger + CountingNumber>(a: T) -> u8
-    requires { number a < 256 }
-    ensures { result ≡ number a }
+    requires { T.number a < 256 }
+    ensures { result ≡ T.number a }
 {
     match a.to_u8() {
         Some(x) => x,

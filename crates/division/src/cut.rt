@@ -13,14 +13,14 @@ pub struct Cut<S> {
 
 impl<S: DigitSink> Cut<S> {
     pub fn new(below: S, limit: u16) -> Cut<S>
-        ensures begins { Stands (cut S.DigitSink) result (taken below) (min limit (left below)) (held below) }
+        ensures begins { Stands (cut S.DigitSink) result (S.taken below) (min limit (S.left below)) (S.held below) }
         ensures below { result.below ≡ below }
     {
         Cut { below, limit }
     }
 
     pub fn into_below(self) -> S
-        ensures stands { (taken result ≡ (cut S.DigitSink).taken self) × (held result ≡ (cut S.DigitSink).held self) }
+        ensures stands { (S.taken result ≡ (cut S.DigitSink).taken self) × (S.held result ≡ (cut S.DigitSink).held self) }
         ensures below { result ≡ self.below }
     {
         let Cut { below, limit: _ } = self;

@@ -7,9 +7,9 @@ use generic::integer::GenericInteger;
 
 // The next digit of the fraction r over d, and the remainder after it.
 pub(crate) fn digit_step<T: GenericInteger + CountingNumber>(r: T, d: T) -> (u8, T)
-    requires { number r < number d }
-    ensures exact { (result.0 ≡ 10 * number r / number d) × (number result.1 ≡ 10 * number r % number d) }
-    ensures small { (result.0 < 10) × (number result.1 < number d) }
+    requires { T.number r < T.number d }
+    ensures exact { (result.0 ≡ 10 * T.number r / T.number d) × (T.number result.1 ≡ 10 * T.number r % T.number d) }
+    ensures small { (result.0 < 10) × (T.number result.1 < T.number d) }
 {
     match T::ten().checked_mul(r) {
         Some(tenfold) => {
@@ -22,9 +22,9 @@ pub(crate) fn digit_step<T: GenericInteger + CountingNumber>(r: T, d: T) -> (u8,
 
 // The same where ten times r passes the type's greatest: a trial digit, r over the tenth of d, is lowered until it fits.
 fn corrected_step<T: GenericInteger + CountingNumber>(r: T, d: T) -> (u8, T)
-    requires { (number r < number d) × (greatest < 10 * number r) }
-    ensures exact { (result.0 ≡ 10 * number r / number d) × (number result.1 ≡ 10 * number r % number d) }
-    ensures small { (result.0 < 10) × (number result.1 < number d) }
+    requires { (T.number r < T.number d) × (T.greatest < 10 * T.number r) }
+    ensures exact { (result.0 ≡ 10 * T.number r / T.number d) × (T.number result.1 ≡ 10 * T.number r % T.number d) }
+    ensures small { (result.0 < 10) × (T.number result.1 < T.number d) }
 {
     let ten = T::ten();
     let (tenth, unit) = divided(d, ten);

@@ -19,10 +19,10 @@ fn offer_four<T: GenericInteger + CountingNumber, S: DigitSink>(
     divisor: T,
     sink: &mut S,
 ) -> Option<T>
-    requires below { number remainder < number divisor }
-    requires some { 4 ≤ left sink.old }
-    ensures block { Block number step (number divisor) (number remainder) (taken sink.old) (left sink.old) (held sink.old) (taken sink.new) (left sink.new) (held sink.new) result }
-    ensures on { on sink.old sink.new }
+    requires below { T.number remainder < T.number divisor }
+    requires some { 4 ≤ S.left sink.old }
+    ensures block { Block T.number S.step (T.number divisor) (T.number remainder) (S.taken sink.old) (S.left sink.old) (S.held sink.old) (S.taken sink.new) (S.left sink.new) (S.held sink.new) result }
+    ensures on { S.on sink.old sink.new }
 {
     let (four, after) = share(remainder, 10_000, divisor);
     if after.is_zero() {
@@ -34,9 +34,9 @@ fn offer_four<T: GenericInteger + CountingNumber, S: DigitSink>(
 
 // Offers the next digits of the fraction one by one until it ends or the sink wants no more, and answers the remainder then.
 fn ones<T: GenericInteger + CountingNumber, S: DigitSink>(first: T, divisor: T, sink: &mut S) -> T
-    requires { number first < number divisor }
-    ensures went { Went step (number divisor) (number first) 0 (coming (number divisor) (number first) (left sink.old)) (taken sink.old) (left sink.old) (held sink.old) (taken sink.new) (left sink.new) (held sink.new) (number result) 0 }
-    ensures on { on sink.old sink.new }
+    requires { T.number first < T.number divisor }
+    ensures went { Went S.step (T.number divisor) (T.number first) 0 (coming (T.number divisor) (T.number first) (S.left sink.old)) (S.taken sink.old) (S.left sink.old) (S.held sink.old) (S.taken sink.new) (S.left sink.new) (S.held sink.new) (T.number result) 0 }
+    ensures on { S.on sink.old sink.new }
 {
     let mut remainder = first;
     'digits: while !remainder.is_zero() {
@@ -60,9 +60,9 @@ fn advance<T: GenericInteger + CountingNumber, S: DigitSink>(
     divisor: T,
     sink: &mut S,
 ) -> T
-    requires { number first < number divisor }
-    ensures went { Went step (number divisor) (number first) 0 (coming (number divisor) (number first) (left sink.old)) (taken sink.old) (left sink.old) (held sink.old) (taken sink.new) (left sink.new) (held sink.new) (number result) 0 }
-    ensures on { on sink.old sink.new }
+    requires { T.number first < T.number divisor }
+    ensures went { Went S.step (T.number divisor) (T.number first) 0 (coming (T.number divisor) (T.number first) (S.left sink.old)) (S.taken sink.old) (S.left sink.old) (S.held sink.old) (S.taken sink.new) (S.left sink.new) (S.held sink.new) (T.number result) 0 }
+    ensures on { S.on sink.old sink.new }
 {
     let mut remainder = first;
     'fours: while sink.left() >= 4 {
@@ -80,8 +80,8 @@ pub fn divide_rem_resume<T: GenericInteger + CountingNumber, S: DigitSink>(
     state: DivisionState<T>,
     sink: &mut S,
 ) -> Result<Resumed<T>, Refused<T>>
-    ensures resumes { Resumes number step state.remainder state.divisor (taken sink.old) (left sink.old) (held sink.old) (taken sink.new) (left sink.new) (held sink.new) result }
-    ensures on { on sink.old sink.new }
+    ensures resumes { Resumes T.number S.step state.remainder state.divisor (S.taken sink.old) (S.left sink.old) (S.held sink.old) (S.taken sink.new) (S.left sink.new) (S.held sink.new) result }
+    ensures on { S.on sink.old sink.new }
     ensures unchanged { OnErr result (sink.new ≡ sink.old) }
 {
     if state.divisor.is_zero() {
@@ -109,8 +109,8 @@ pub fn divide_rem<T: GenericInteger + CountingNumber, S: DigitSink>(
     divisor: T,
     sink: &mut S,
 ) -> Result<Resumed<T>, Refused<T>>
-    ensures resumes { Resumes number step remainder divisor (taken sink.old) (left sink.old) (held sink.old) (taken sink.new) (left sink.new) (held sink.new) result }
-    ensures on { on sink.old sink.new }
+    ensures resumes { Resumes T.number S.step remainder divisor (S.taken sink.old) (S.left sink.old) (S.held sink.old) (S.taken sink.new) (S.left sink.new) (S.held sink.new) result }
+    ensures on { S.on sink.old sink.new }
     ensures unchanged { OnErr result (sink.new ≡ sink.old) }
 {
     divide_rem_resume(DivisionState::new(remainder, divisor), sink)

@@ -19,7 +19,7 @@ pub fn serve<T: GenericInteger + CountingNumber, S: DigitSink>(
     sinks: &mut [S],
 ) -> Result<Division<T>, DivisionFault>
     ensures law { NoDigitLost }
-    ensures run { ServedWhole number greatest S.DigitSink n d sinks.old sinks.new result }
+    ensures run { ServedWhole T.number T.greatest S.DigitSink n d sinks.old sinks.new result }
 {
     serve_whole(n, d, sinks)
 }
@@ -31,7 +31,7 @@ pub fn serve_rem<T: GenericInteger + CountingNumber, S: DigitSink>(
     sinks: &mut [S],
 ) -> Division<T>
     ensures law { NoDigitLost }
-    ensures run { Served number greatest S.DigitSink (Fraction (record { remainder = remainder; divisor = divisor })) sinks.old sinks.new result }
+    ensures run { Served T.number T.greatest S.DigitSink (Fraction (record { remainder = remainder; divisor = divisor })) sinks.old sinks.new result }
 {
     let state = DivisionState::new(remainder, divisor);
     serve_on(Division::Fraction { state }, sinks)
@@ -43,7 +43,7 @@ fn serve_whole<T: GenericInteger + CountingNumber, S: DigitSink>(
     sinks: &mut [S],
 ) -> Result<Division<T>, DivisionFault>
     ensures law { NoDigitLost }
-    ensures run { ServedWhole number greatest S.DigitSink n d sinks.old sinks.new result }
+    ensures run { ServedWhole T.number T.greatest S.DigitSink n d sinks.old sinks.new result }
 {
     match open(n, d) {
         Ok(state) => Ok(serve_on(Division::Whole { state }, sinks)),
@@ -56,8 +56,8 @@ fn next<T: GenericInteger + CountingNumber, S: DigitSink>(
     division: Division<T>,
     sink: &mut S,
 ) -> Division<T>
-    requires { SoundDivision number greatest division }
-    ensures { Steps number greatest S.DigitSink division sink.old sink.new result }
+    requires { SoundDivision T.number T.greatest division }
+    ensures { Steps T.number T.greatest S.DigitSink division sink.old sink.new result }
 {
     match division {
         Division::Whole { state } => match divide_integral(state, sink) {
@@ -80,9 +80,9 @@ fn serve_on<T: GenericInteger + CountingNumber, S: DigitSink>(
     start: Division<T>,
     sinks: &mut [S],
 ) -> Division<T>
-    requires { SoundDivision number greatest start }
+    requires { SoundDivision T.number T.greatest start }
     ensures law { NoDigitLost }
-    ensures run { Served number greatest S.DigitSink start sinks.old sinks.new result }
+    ensures run { Served T.number T.greatest S.DigitSink start sinks.old sinks.new result }
 {
     let mut division = start;
     for i in 0..sinks.len() {

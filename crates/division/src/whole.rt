@@ -15,7 +15,7 @@ pub fn open<T: GenericInteger + CountingNumber>(
     n: T,
     d: T,
 ) -> Result<IntegralState<T>, DivisionFault>
-    ensures { Opens number greatest n d result }
+    ensures { Opens T.number T.greatest n d result }
 {
     if d.is_zero() {
         Err(DivisionFault::ZeroDivisor)
@@ -26,8 +26,8 @@ pub fn open<T: GenericInteger + CountingNumber>(
 
 // The unit of the first digit is the greatest that n reaches, or the divisor itself.
 fn begun<T: GenericInteger + CountingNumber>(n: T, d: T) -> IntegralState<T>
-    requires { 0 < number d }
-    ensures { Begun number greatest n d result }
+    requires { 0 < T.number d }
+    ensures { Begun T.number T.greatest n d result }
 {
     let ten = T::ten();
     let mut unit = d;
@@ -54,11 +54,11 @@ fn begun<T: GenericInteger + CountingNumber>(n: T, d: T) -> IntegralState<T>
 
 // The state after a digit, with what it leaves of the rest.
 fn after<T: GenericInteger + CountingNumber>(rest: T, divisor: T, unit: T, place: u8) -> Integral<T>
-    requires divisor { 0 < number divisor }
+    requires divisor { 0 < T.number divisor }
     requires place { 0 < place }
-    requires unit { number unit ≡ 10 ^ (place - 1) * number divisor }
-    requires rest { number rest < number unit }
-    ensures { Follows number greatest rest divisor place result }
+    requires unit { T.number unit ≡ 10 ^ (place - 1) * T.number divisor }
+    requires rest { T.number rest < T.number unit }
+    ensures { Follows T.number T.greatest rest divisor place result }
 {
     if place == 1 {
         Integral::Ended {
@@ -85,9 +85,9 @@ pub fn divide_integral<T: GenericInteger + CountingNumber, S: DigitSink>(
     state: IntegralState<T>,
     sink: &mut S,
 ) -> Integral<T>
-    requires { SoundState number greatest state }
-    ensures went { Integrates number greatest step state (taken sink.old) (left sink.old) (held sink.old) (taken sink.new) (left sink.new) (held sink.new) result }
-    ensures on { on sink.old sink.new }
+    requires { SoundState T.number T.greatest state }
+    ensures went { Integrates T.number T.greatest S.step state (S.taken sink.old) (S.left sink.old) (S.held sink.old) (S.taken sink.new) (S.left sink.new) (S.held sink.new) result }
+    ensures on { S.on sink.old sink.new }
 {
     // One digit or two cost less one by one.
     if state.place > 2 && u16::from(state.place) <= sink.left() {
@@ -102,10 +102,10 @@ fn at_once<T: GenericInteger + CountingNumber, S: DigitSink>(
     state: IntegralState<T>,
     sink: &mut S,
 ) -> Integral<T>
-    requires sound { SoundState number greatest state }
-    requires some { state.place ≤ left sink.old }
-    ensures went { Integrates number greatest step state (taken sink.old) (left sink.old) (held sink.old) (taken sink.new) (left sink.new) (held sink.new) result }
-    ensures on { on sink.old sink.new }
+    requires sound { SoundState T.number T.greatest state }
+    requires some { state.place ≤ S.left sink.old }
+    ensures went { Integrates T.number T.greatest S.step state (S.taken sink.old) (S.left sink.old) (S.held sink.old) (S.taken sink.new) (S.left sink.new) (S.held sink.new) result }
+    ensures on { S.on sink.old sink.new }
 {
     let (quotient, remainder) = divided(state.rest, state.divisor);
     put_all(sink, quotient.to_u64(), state.place);
@@ -122,9 +122,9 @@ fn advance<T: GenericInteger + CountingNumber, S: DigitSink>(
     first: IntegralState<T>,
     sink: &mut S,
 ) -> Integral<T>
-    requires { SoundState number greatest first }
-    ensures went { Integrates number greatest step first (taken sink.old) (left sink.old) (held sink.old) (taken sink.new) (left sink.new) (held sink.new) result }
-    ensures on { on sink.old sink.new }
+    requires { SoundState T.number T.greatest first }
+    ensures went { Integrates T.number T.greatest S.step first (S.taken sink.old) (S.left sink.old) (S.held sink.old) (S.taken sink.new) (S.left sink.new) (S.held sink.new) result }
+    ensures on { S.on sink.old sink.new }
 {
     let mut state = first;
     'digits: loop {

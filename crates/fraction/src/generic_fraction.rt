@@ -31,8 +31,8 @@ pub enum GenericFraction<T> {
 
 // The quotient, rounded down.
 fn quotient<T: GenericInteger + CountingNumber>(a: T, by: T) -> T
-    requires { 0 < number by }
-    ensures { number result ≡ number a / number by }
+    requires { 0 < T.number by }
+    ensures { T.number result ≡ T.number a / T.number by }
 {
     match a.checked_div(by) {
         Some(x) => x,
@@ -43,8 +43,8 @@ fn quotient<T: GenericInteger + CountingNumber>(a: T, by: T) -> T
 impl<T: GenericInteger + CountingNumber> Ratio<T> {
     // In lowest terms. Where they already are, nothing is divided.
     fn lowest(num: T, den: T) -> Ratio<T>
-        requires { 0 < number den }
-        ensures { Lowest (number num) (number den) (number result.numer) (number result.denom) }
+        requires { 0 < T.number den }
+        ensures { Lowest (T.number num) (T.number den) (T.number result.numer) (T.number result.denom) }
     {
         let common = gcd(num, den);
         match common.compare(T::one()) {
@@ -63,9 +63,9 @@ impl<T: GenericInteger + CountingNumber> Ratio<T> {
 impl<T: GenericInteger + CountingNumber> GenericFraction<T> {
     // The sign and num over den, in lowest terms; NaN for 0 over 0, and an infinity for the rest over 0.
     fn new_signed(sign: Sign, num: T, den: T) -> GenericFraction<T>
-        ensures made { Made sign (number num) (number den) (meant number result) }
-        ensures only { Only sign (number num) (number den) (meant number result) }
-        ensures sound { Sound (meant number result) }
+        ensures made { Made sign (T.number num) (T.number den) (meant T.number result) }
+        ensures only { Only sign (T.number num) (T.number den) (meant T.number result) }
+        ensures sound { Sound (meant T.number result) }
     {
         if !den.is_zero() {
             GenericFraction::Rational(sign, Ratio::lowest(num, den))
@@ -77,33 +77,33 @@ impl<T: GenericInteger + CountingNumber> GenericFraction<T> {
     }
 
     pub fn new(num: T, den: T) -> GenericFraction<T>
-        ensures made { Made Plus (number num) (number den) (meant number result) }
-        ensures only { Only Plus (number num) (number den) (meant number result) }
-        ensures sound { Sound (meant number result) }
+        ensures made { Made Plus (T.number num) (T.number den) (meant T.number result) }
+        ensures only { Only Plus (T.number num) (T.number den) (meant T.number result) }
+        ensures sound { Sound (meant T.number result) }
     {
         Self::new_signed(Sign::Plus, num, den)
     }
 
     pub fn new_neg(num: T, den: T) -> GenericFraction<T>
-        ensures made { Made Minus (number num) (number den) (meant number result) }
-        ensures only { Only Minus (number num) (number den) (meant number result) }
-        ensures sound { Sound (meant number result) }
+        ensures made { Made Minus (T.number num) (T.number den) (meant T.number result) }
+        ensures only { Only Minus (T.number num) (T.number den) (meant T.number result) }
+        ensures sound { Sound (meant T.number result) }
     {
         Self::new_signed(Sign::Minus, num, den)
     }
 
     // Not reduced; refused with 7 exactly when den is 0.
     pub fn new_raw(num: T, den: T) -> Result<GenericFraction<T>, FractionFault>
-        ensures made { MadeRaw number Plus (number num) (number den) result }
-        ensures sound { IfOk result (λ f. Sound (meant number f)) }
+        ensures made { MadeRaw T.number Plus (T.number num) (T.number den) result }
+        ensures sound { IfOk result (λ f. Sound (meant T.number f)) }
     {
         Self::new_raw_signed(Sign::Plus, num, den)
     }
 
     // Not reduced; refused with 7 exactly when den is 0.
     pub fn new_raw_signed(sign: Sign, num: T, den: T) -> Result<GenericFraction<T>, FractionFault>
-        ensures made { MadeRaw number sign (number num) (number den) result }
-        ensures sound { IfOk result (λ f. Sound (meant number f)) }
+        ensures made { MadeRaw T.number sign (T.number num) (T.number den) result }
+        ensures sound { IfOk result (λ f. Sound (meant T.number f)) }
     {
         if den.is_zero() {
             Err(FractionFault::ZeroDenominator)

@@ -32,11 +32,11 @@ pub(crate) fn measure<T: GenericInteger + CountingNumber>(
     places: u8,
     precision: u16,
 ) -> Extent
-    requires n { 0 < number n }
-    requires d { 0 < number d }
-    requires places { Width (number n) (number d) places }
+    requires n { 0 < T.number n }
+    requires d { 0 < T.number d }
+    requires places { Width (T.number n) (T.number d) places }
     requires precision { (0 < precision) × (precision ≤ 16383) }
-    ensures { Measured (number n) (number d) precision places result.shape result.scale result.groups result.weight }
+    ensures { Measured (T.number n) (T.number d) precision places result.shape result.scale result.groups result.weight }
 {
     let (whole, remainder) = divided(n, d);
     let scale = fraction_length(remainder, d, precision);
@@ -51,8 +51,8 @@ pub(crate) fn measure<T: GenericInteger + CountingNumber>(
 
 // The quotient and the remainder.
 fn divided<T: GenericInteger + CountingNumber>(a: T, by: T) -> (T, T)
-    requires { 0 < number by }
-    ensures { (number result.0 ≡ number a / number by) × (number result.1 ≡ number a % number by) }
+    requires { 0 < T.number by }
+    ensures { (T.number result.0 ≡ T.number a / T.number by) × (T.number result.1 ≡ T.number a % T.number by) }
 {
     match a.div_rem(by) {
         Some(pair) => pair,
@@ -62,8 +62,8 @@ fn divided<T: GenericInteger + CountingNumber>(a: T, by: T) -> (T, T)
 
 // How many fractional digits come, if at most `most` are wanted.
 fn fraction_length<T: GenericInteger + CountingNumber>(remainder: T, divisor: T, most: u16) -> u16
-    requires { number remainder < number divisor }
-    ensures { result ≡ coming (number divisor) (number remainder) most }
+    requires { T.number remainder < T.number divisor }
+    ensures { result ≡ coming (T.number divisor) (T.number remainder) most }
 {
     let mut counter = Counter::new(most.min(LONGEST_EXPANSION));
     match divide_rem(remainder, divisor, &mut counter) {
@@ -80,8 +80,8 @@ fn fraction_length<T: GenericInteger + CountingNumber>(remainder: T, divisor: T,
 
 // How many zeros stand before the first other digit of a fraction below 1: one less than the whole digits of (d - 1) over n.
 fn leading_zeros<T: GenericInteger + CountingNumber>(n: T, d: T) -> u8
-    requires { (0 < number n) × (number n < number d) }
-    ensures { Width (number d - 1) (number n) (suc result) }
+    requires { (0 < T.number n) × (T.number n < T.number d) }
+    ensures { Width (T.number d - 1) (T.number n) (suc result) }
 {
     match d.checked_sub(T::one()) {
         Some(below) => match open(below, n) {
@@ -94,8 +94,8 @@ fn leading_zeros<T: GenericInteger + CountingNumber>(n: T, d: T) -> u8
 
 // How many zero groups a whole number ends with.
 fn trailing_zero_groups<T: GenericInteger + CountingNumber>(whole: T) -> u8
-    requires { 0 < number whole }
-    ensures { Ending (number whole) result }
+    requires { 0 < T.number whole }
+    ensures { Ending (T.number whole) result }
 {
     let base = T::from_u16(10_000);
     let mut rest = whole;
@@ -129,9 +129,9 @@ fn below_weight(left_out: u16) -> i16
 
 // A fraction below 1.
 fn below_one<T: GenericInteger + CountingNumber>(n: T, d: T, scale: u16) -> Extent
-    requires fraction { (0 < number n) × (number n < number d) }
+    requires fraction { (0 < T.number n) × (T.number n < T.number d) }
     requires scale { (0 < scale) × (scale ≤ 16383) }
-    ensures { (result.scale ≡ scale) × ((w : ℕ) → Sized (number n) (number d) w scale result.shape result.groups result.weight) }
+    ensures { (result.scale ≡ scale) × ((w : ℕ) → Sized (T.number n) (T.number d) w scale result.shape result.groups result.weight) }
 {
     let zeros = leading_zeros(n, d);
     let shape = Shape::Below {
@@ -170,8 +170,8 @@ fn mixed(places: u8, scale: u16) -> Extent
 
 // A whole number of so many digits.
 fn whole_number<T: GenericInteger + CountingNumber>(whole: T, places: u8) -> Extent
-    requires { (0 < number whole) × (Width (number whole) 1 places) }
-    ensures { (result.scale ≡ 0) × Sized (number whole) 1 places 0 result.shape result.groups result.weight }
+    requires { (0 < T.number whole) × (Width (T.number whole) 1 places) }
+    ensures { (result.scale ≡ 0) × Sized (T.number whole) 1 places 0 result.shape result.groups result.weight }
 {
     let zeros = trailing_zero_groups(whole);
     let groups = groups_for(u16::from(places));

@@ -31,10 +31,10 @@ fn after_zeros<T: GenericInteger + CountingNumber>(
     state: IntegralState<T>,
     passed: u8,
 ) -> DivisionState<T>
-    requires begun { Begun number greatest state.rest state.divisor state }
-    requires below { number state.rest < number state.divisor }
-    requires some { coming (number state.divisor) (number state.rest) passed ≡ passed }
-    ensures { (result.divisor ≡ state.divisor) × (number result.remainder ≡ rest (number state.divisor) (number state.rest) 0 passed) }
+    requires begun { Begun T.number T.greatest state.rest state.divisor state }
+    requires below { T.number state.rest < T.number state.divisor }
+    requires some { coming (T.number state.divisor) (T.number state.rest) passed ≡ passed }
+    ensures { (result.divisor ≡ state.divisor) × (T.number result.remainder ≡ rest (T.number state.divisor) (T.number state.rest) 0 passed) }
 {
     let mut zeros = Counter::new(1 + u16::from(passed));
     let fraction = match divide_integral(state, &mut zeros) {
@@ -57,12 +57,12 @@ fn put_below<T: GenericInteger + CountingNumber>(
     passed: u8,
     scale: u16,
 )
-    requires begun { Begun number greatest state.rest state.divisor state }
-    requires below { number state.rest < number state.divisor }
-    requires passed { (passed % 4 ≡ 0) × (number state.rest * 10 ^ passed < number state.divisor) × (passed < scale) }
-    requires scale { coming (number state.divisor) (number state.rest) scale ≡ scale }
+    requires begun { Begun T.number T.greatest state.rest state.divisor state }
+    requires below { T.number state.rest < T.number state.divisor }
+    requires passed { (passed % 4 ≡ 0) × (T.number state.rest * 10 ^ passed < T.number state.divisor) × (passed < scale) }
+    requires scale { coming (T.number state.divisor) (T.number state.rest) scale ≡ scale }
     requires room { 2 * (fours scale - passed / 4) ≤ length buffer.old }
-    ensures { buffer.new ≡ placed buffer.old 0 (flat_map word_bytes (groups_of (cut (number state.rest) (number state.divisor) scale) scale)) }
+    ensures { buffer.new ≡ placed buffer.old 0 (flat_map word_bytes (groups_of (cut (T.number state.rest) (T.number state.divisor) scale) scale)) }
 {
     let fraction = after_zeros(state, passed);
     let mut sink = GroupSink::new(buffer, 0, scale - u16::from(passed));
@@ -79,10 +79,10 @@ fn put_mixed<T: GenericInteger + CountingNumber>(
     state: IntegralState<T>,
     scale: u16,
 )
-    requires begun { Begun number greatest state.rest state.divisor state }
-    requires scale { (0 < scale) × (scale ≤ 16383) × (coming (number state.divisor) (number state.rest % number state.divisor) scale ≡ scale) }
+    requires begun { Begun T.number T.greatest state.rest state.divisor state }
+    requires scale { (0 < scale) × (scale ≤ 16383) × (coming (T.number state.divisor) (T.number state.rest % T.number state.divisor) scale ≡ scale) }
     requires room { 2 * (fours state.place + fours scale) ≤ length buffer.old }
-    ensures { buffer.new ≡ placed buffer.old 0 (flat_map word_bytes (groups_of (cut (number state.rest) (number state.divisor) scale) scale)) }
+    ensures { buffer.new ≡ placed buffer.old 0 (flat_map word_bytes (groups_of (cut (T.number state.rest) (T.number state.divisor) scale) scale)) }
 {
     let whole = state.place();
     let mut sink = GroupSink::new(buffer, places_before(whole), u16::from(whole) + scale);
@@ -102,11 +102,11 @@ fn put_whole<T: GenericInteger + CountingNumber>(
     state: IntegralState<T>,
     zeros: u8,
 )
-    requires begun { Begun number greatest state.rest state.divisor state }
-    requires some { number state.divisor ≤ number state.rest }
-    requires zeros { (4 * zeros < state.place) × Ending (number state.rest / number state.divisor) zeros }
+    requires begun { Begun T.number T.greatest state.rest state.divisor state }
+    requires some { T.number state.divisor ≤ T.number state.rest }
+    requires zeros { (4 * zeros < state.place) × Ending (T.number state.rest / T.number state.divisor) zeros }
     requires room { 2 * (fours state.place - zeros) ≤ length buffer.old }
-    ensures { buffer.new ≡ placed buffer.old 0 (flat_map word_bytes (groups_of (cut (number state.rest) (number state.divisor) 0) 0)) }
+    ensures { buffer.new ≡ placed buffer.old 0 (flat_map word_bytes (groups_of (cut (T.number state.rest) (T.number state.divisor) 0) 0)) }
 {
     let digits = state.place() - 4 * zeros;
     let mut sink = GroupSink::new(buffer, places_before(digits), u16::from(digits));
@@ -120,11 +120,11 @@ pub(crate) fn put_groups<T: GenericInteger + CountingNumber>(
     state: IntegralState<T>,
     extent: Extent,
 )
-    requires begun { Begun number greatest state.rest state.divisor state }
-    requires sized { Sized (number state.rest) (number state.divisor) state.place extent.scale extent.shape extent.groups extent.weight }
-    requires scale { (extent.scale ≤ 16383) × (coming (number state.divisor) (number state.rest % number state.divisor) extent.scale ≡ extent.scale) }
+    requires begun { Begun T.number T.greatest state.rest state.divisor state }
+    requires sized { Sized (T.number state.rest) (T.number state.divisor) state.place extent.scale extent.shape extent.groups extent.weight }
+    requires scale { (extent.scale ≤ 16383) × (coming (T.number state.divisor) (T.number state.rest % T.number state.divisor) extent.scale ≡ extent.scale) }
     requires room { 2 * extent.groups ≤ length buffer.old }
-    ensures { buffer.new ≡ placed buffer.old 0 (flat_map word_bytes (groups_of (cut (number state.rest) (number state.divisor) extent.scale) extent.scale)) }
+    ensures { buffer.new ≡ placed buffer.old 0 (flat_map word_bytes (groups_of (cut (T.number state.rest) (T.number state.divisor) extent.scale) extent.scale)) }
 {
     if extent.groups == 0 {
         return;

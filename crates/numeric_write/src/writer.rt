@@ -30,8 +30,8 @@ pub fn fraction_to_sql_buf<T: GenericInteger + CountingNumber>(
     used: &mut usize,
     precision: usize,
 ) -> Result<(), PackageFault>
-    requires { Sound (meant number source.now) }
-    ensures outcome { Outcome (written (meant number source.now) precision) buffer.old used.old buffer.new used.new result }
+    requires { Sound (meant T.number source.now) }
+    ensures outcome { Outcome (written (meant T.number source.now) precision) buffer.old used.old buffer.new used.new result }
     ensures faithful { WritingFaithful }
 {
     write_within(source, buffer, used, in_force(precision))
@@ -43,8 +43,8 @@ pub fn to_sql<T: GenericInteger + CountingNumber>(
     buffer: &mut [u8],
     used: &mut usize,
 ) -> Result<(), PackageFault>
-    requires { Sound (meant number source.now) }
-    ensures outcome { Outcome (written (meant number source.now) 16383) buffer.old used.old buffer.new used.new result }
+    requires { Sound (meant T.number source.now) }
+    ensures outcome { Outcome (written (meant T.number source.now) 16383) buffer.old used.old buffer.new used.new result }
     ensures faithful { WritingFaithful }
 {
     fraction_to_sql_buf(source, buffer, used, PG_MAX_PRECISION)
@@ -63,9 +63,9 @@ fn write_within<T: GenericInteger + CountingNumber>(
     used: &mut usize,
     precision: u16,
 ) -> Result<(), PackageFault>
-    requires sound { Sound (meant number source.now) }
+    requires sound { Sound (meant T.number source.now) }
     requires precision { (0 < precision) × (precision ≤ 16383) }
-    ensures { Outcome (written_within (meant number source.now) precision) buffer.old used.old buffer.new used.new result }
+    ensures { Outcome (written_within (meant T.number source.now) precision) buffer.old used.old buffer.new used.new result }
 {
     match *source {
         GenericFraction::Rational(sign, ratio) => {
@@ -107,9 +107,9 @@ fn put_rational<T: GenericInteger + CountingNumber>(
     d: T,
     precision: u16,
 ) -> Result<(), PackageFault>
-    requires d { 0 < number d }
+    requires d { 0 < T.number d }
     requires precision { (0 < precision) × (precision ≤ 16383) }
-    ensures { Outcome (written_within (rational sign (number n) (number d)) precision) buffer.old used.old buffer.new used.new result }
+    ensures { Outcome (written_within (rational sign (T.number n) (T.number d)) precision) buffer.old used.old buffer.new used.new result }
 {
     if n.is_zero() {
         return put_bare(buffer, used, PG_POS);
@@ -149,10 +149,10 @@ fn put_measured<T: GenericInteger + CountingNumber>(
     state: IntegralState<T>,
     extent: Extent,
 ) -> Result<(), PackageFault>
-    requires begun { Begun number greatest state.rest state.divisor state }
-    requires sized { Sized (number state.rest) (number state.divisor) state.place extent.scale extent.shape extent.groups extent.weight }
-    requires scale { (extent.scale ≤ 16383) × (coming (number state.divisor) (number state.rest % number state.divisor) extent.scale ≡ extent.scale) }
-    ensures { Outcome (package_of sign (cut (number state.rest) (number state.divisor) extent.scale) extent.scale) buffer.old used.old buffer.new used.new result }
+    requires begun { Begun T.number T.greatest state.rest state.divisor state }
+    requires sized { Sized (T.number state.rest) (T.number state.divisor) state.place extent.scale extent.shape extent.groups extent.weight }
+    requires scale { (extent.scale ≤ 16383) × (coming (T.number state.divisor) (T.number state.rest % T.number state.divisor) extent.scale ≡ extent.scale) }
+    ensures { Outcome (package_of sign (cut (T.number state.rest) (T.number state.divisor) extent.scale) extent.scale) buffer.old used.old buffer.new used.new result }
 {
     let start = *used;
     let needed = 8 + 2 * usize::from(extent.groups);

@@ -11,8 +11,8 @@ use generic::sign::Sign;
 impl<T: GenericInteger + CountingNumber> GenericFraction<T> {
     // A whole number.
     fn over_one(sign: Sign, num: T) -> GenericFraction<T>
-        ensures means { meant number result ≡ rational sign (number num) 1 }
-        ensures sound { Sound (meant number result) }
+        ensures means { meant T.number result ≡ rational sign (T.number num) 1 }
+        ensures sound { Sound (meant T.number result) }
     {
         GenericFraction::Rational(
             sign,
@@ -24,36 +24,36 @@ impl<T: GenericInteger + CountingNumber> GenericFraction<T> {
     }
 
     pub fn zero() -> GenericFraction<T>
-        ensures means { meant number result ≡ rational Plus 0 1 }
-        ensures sound { Sound (meant number result) }
+        ensures means { meant T.number result ≡ rational Plus 0 1 }
+        ensures sound { Sound (meant T.number result) }
     {
         Self::over_one(Sign::Plus, T::zero())
     }
 
     pub fn neg_zero() -> GenericFraction<T>
-        ensures means { meant number result ≡ rational Minus 0 1 }
-        ensures sound { Sound (meant number result) }
+        ensures means { meant T.number result ≡ rational Minus 0 1 }
+        ensures sound { Sound (meant T.number result) }
     {
         Self::over_one(Sign::Minus, T::zero())
     }
 
     pub fn nan() -> GenericFraction<T>
-        ensures means { meant number result ≡ nan }
-        ensures sound { Sound (meant number result) }
+        ensures means { meant T.number result ≡ nan }
+        ensures sound { Sound (meant T.number result) }
     {
         GenericFraction::NaN
     }
 
     pub fn infinity() -> GenericFraction<T>
-        ensures means { meant number result ≡ infinity Plus }
-        ensures sound { Sound (meant number result) }
+        ensures means { meant T.number result ≡ infinity Plus }
+        ensures sound { Sound (meant T.number result) }
     {
         GenericFraction::Infinity(Sign::Plus)
     }
 
     pub fn neg_infinity() -> GenericFraction<T>
-        ensures means { meant number result ≡ infinity Minus }
-        ensures sound { Sound (meant number result) }
+        ensures means { meant T.number result ≡ infinity Minus }
+        ensures sound { Sound (meant T.number result) }
     {
         GenericFraction::Infinity(Sign::Minus)
     }

@@ -24,7 +24,7 @@ impl<T: Copy> Ratio<T> {
 impl<T: GenericInteger + CountingNumber> GenericFraction<T> {
     // None for an infinity and for NaN.
     pub fn numer(&self) -> Option<T>
-        ensures { told number result ≡ numerator (meant number self.now) }
+        ensures { told T.number result ≡ numerator (meant T.number self.now) }
     {
         match *self {
             GenericFraction::Rational(_, ratio) => Some(ratio.numer),
@@ -35,7 +35,7 @@ impl<T: GenericInteger + CountingNumber> GenericFraction<T> {
 
     // None for an infinity and for NaN.
     pub fn denom(&self) -> Option<T>
-        ensures { told number result ≡ denominator (meant number self.now) }
+        ensures { told T.number result ≡ denominator (meant T.number self.now) }
     {
         match *self {
             GenericFraction::Rational(_, ratio) => Some(ratio.denom),
@@ -46,7 +46,7 @@ impl<T: GenericInteger + CountingNumber> GenericFraction<T> {
 
     // None for NaN.
     pub fn sign(&self) -> Option<Sign>
-        ensures { result ≡ signed (meant number self.now) }
+        ensures { result ≡ signed (meant T.number self.now) }
     {
         match *self {
             GenericFraction::Rational(sign, _) => Some(sign),
@@ -56,7 +56,7 @@ impl<T: GenericInteger + CountingNumber> GenericFraction<T> {
     }
 
     pub fn is_zero(&self) -> bool
-        ensures { Decides result (Zero (meant number self.now)) }
+        ensures { Decides result (Zero (meant T.number self.now)) }
     {
         match *self {
             GenericFraction::Rational(_, ratio) => ratio.numer.is_zero(),
@@ -66,7 +66,7 @@ impl<T: GenericInteger + CountingNumber> GenericFraction<T> {
     }
 
     pub fn is_nan(&self) -> bool
-        ensures { Decides result (meant number self.now ≡ nan) }
+        ensures { Decides result (meant T.number self.now ≡ nan) }
     {
         match *self {
             GenericFraction::Rational(_, _) => false,
@@ -76,7 +76,7 @@ impl<T: GenericInteger + CountingNumber> GenericFraction<T> {
     }
 
     pub fn is_infinite(&self) -> bool
-        ensures { Decides result (Infinite (meant number self.now)) }
+        ensures { Decides result (Infinite (meant T.number self.now)) }
     {
         match *self {
             GenericFraction::Rational(_, _) => false,

@@ -9,8 +9,8 @@ module _ (c : goal.After-from-divisor) where
   remainder : c.from-scaled.result * 10000 % c.from-divisor.result < c.from-divisor.result
   remainder = mod-lt (c.from-scaled.result * 10000) (omega arith)
 
-pub overflow-cast-result : goal.overflow-cast-result
-overflow-cast-result c = record { fits = omega (arith, quotient c) }
+pub overflow_cast-result : goal.overflow_cast-result
+overflow_cast-result c = record { fits = omega (arith, quotient c) }
 
 pub returns : goal.returns
 returns c = record { digits = cc; rest = cc; bounds = (quotient c, omega (arith, remainder c)) }

@@ -29,14 +29,14 @@ returns-in-3 g c =
       on = s.order.joins _ _ _ (s.order.joins _ _ _ first.on second.on) third.on;
     }
 
-pub returns-in-default : goal.returns-in-default
-returns-in-default g c =
+pub returns-in_default : goal.returns-in_default
+returns-in_default g c =
     let s = g.S.DigitSink in
     let four : c.args.count ≡ 4 = omega arith in
-    let first = c.put-in-default.ensures in
-    let second = c.put-in-default-2.ensures in
-    let third = c.put-in-default-3.ensures in
-    let fourth = c.put-in-default-4.ensures in
+    let first = c.put-in_default.ensures in
+    let second = c.put-in_default-2.ensures in
+    let third = c.put-in_default-3.ensures in
+    let fourth = c.put-in_default-4.ensures in
     let one = takes_one s.step in
     let joined = takes_join s.step in
     record {

@@ -3,8 +3,8 @@ use Rattle.division.proofs.Blocks.{went_four}
 use Rattle.division.proofs.Tests.{not_zero}
 use Rattle.division.proofs.fraction.offer_four.Goals as goal
 
-pub put-four-requires : goal.put-four-requires
-put-four-requires g c =
+pub put_four-requires : goal.put_four-requires
+put_four-requires g c =
     let number = g.T.CountingNumber.number in
     let r = number c.args.remainder in
     let d = number c.args.divisor in
@@ -20,9 +20,9 @@ returns g c =
     let near : 10000 * r % d < d = mod-lt (10000 * r) (omega arith) in
     record {
       block = (
-        not_zero _ c.if-is-zero.ensures.1,
+        not_zero _ c.if-is_zero.ensures.1,
         omega arith,
-        went_four g.S.DigitSink.step d r c.share-four.result.0 _ _ _ _ _ _ _ c.requires.below shared.0 shared.1 c.put-four.ensures.takes,
+        went_four g.S.DigitSink.step d r c.share-four.result.0 _ _ _ _ _ _ _ c.requires.below shared.0 shared.1 c.put_four.ensures.takes,
       );
-      on = c.put-four.ensures.on;
+      on = c.put_four.ensures.on;
     }

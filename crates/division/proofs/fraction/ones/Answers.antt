@@ -10,9 +10,9 @@ digits-init g c =
 pub digits-preserved : goal.digits-preserved
 digits-preserved g c =
     let inv = c.digits.invariant in
-    let exact = c.digit-step-digit.ensures.exact in
+    let exact = c.digit_step-digit.ensures.exact in
     let some = not_zero _ c.digits_test.ensures.1 in (
-      c.digit-step-digit.ensures.small.1,
+      c.digit_step-digit.ensures.small.1,
       due_fraction g.S.DigitSink.step (g.T.CountingNumber.number c.args.divisor) _ _ _ _ _ _ _ _ _ _ _ _ _ _ _ some exact.0 exact.1 c.in-More.ensures.offered.1 inv.1,
       g.S.DigitSink.order.joins _ _ _ inv.2 c.in-More.ensures.on,
     )
@@ -30,7 +30,7 @@ returns-in-Enough g c =
     let step = g.S.DigitSink.step in
     let d = g.T.CountingNumber.number c.args.divisor in
     let inv = c.digits.invariant in
-    let exact = c.digit-step-digit.ensures.exact in
+    let exact = c.digit_step-digit.ensures.exact in
     let some = not_zero _ c.digits_test.ensures.1 in
     let took = c.in-Enough.ensures.offered in
     record {

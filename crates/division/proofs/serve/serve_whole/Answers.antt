@@ -6,15 +6,15 @@ pub returns-in-Ok : goal.returns-in-Ok
 returns-in-Ok g c =
     let number = g.T.CountingNumber.number in
     let opened = c.in-Ok.ensures in
-    let run = c.serve-on.ensures.run.run in
+    let run = c.serve_on.ensures.run.run in
     record {
-      law = c.serve-on.ensures.law;
+      law = c.serve_on.ensures.law;
       run = (
         c.in-Ok.state,
         opened.1,
         opened.2,
         opened.3,
-        c.serve-on.ensures.run,
+        c.serve_on.ensures.run,
         leading _ _ _ _ opened.3.enough (rw (ap number opened.1, ap number opened.2) at run),
       );
     }

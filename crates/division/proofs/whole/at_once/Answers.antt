@@ -3,15 +3,15 @@ use Rattle.division.proofs.Blocks.{went_whole}
 use Rattle.division.proofs.Places.{few_places, rest_below, quotient_below}
 use Rattle.division.proofs.whole.at_once.Goals as goal
 
-pub put-all-requires : goal.put-all-requires
-put-all-requires g c =
+pub put_all-requires : goal.put_all-requires
+put_all-requires g c =
     let number = g.T.CountingNumber.number in
     let state = c.args.state in
     let sound = c.requires.sound in
     record {
       any = sound.place;
       few = few_places state.place (number state.unit) (number state.divisor) sound.unit sound.divisor (omega (arith, sound.fits, g.met.T.CountingNumber.widest));
-      number = rw (c.to-u64.ensures ∙ c.divided.ensures.0) (quotient_below _ _ _ _ _ sound);
+      number = rw (c.to_u64.ensures ∙ c.divided.ensures.0) (quotient_below _ _ _ _ _ sound);
       some = c.requires.some;
     }
 
@@ -30,8 +30,8 @@ returns g c =
         omega (arith, c.divided.ensures.1),
         (
           sound.place,
-          went_whole d sound.divisor g.S.DigitSink.step m state.place c.to-u64.result _ _ _ _ _ _ _ (rest_below _ _ _ _ _ sound) c.requires.some (c.to-u64.ensures ∙ c.divided.ensures.0) c.divided.ensures.1 c.put-all.ensures.takes,
+          went_whole d sound.divisor g.S.DigitSink.step m state.place c.to_u64.result _ _ _ _ _ _ _ (rest_below _ _ _ _ _ sound) c.requires.some (c.to_u64.ensures ∙ c.divided.ensures.0) c.divided.ensures.1 c.put_all.ensures.takes,
         ),
       );
-      on = c.put-all.ensures.on;
+      on = c.put_all.ensures.on;
     }

@@ -7,8 +7,8 @@ use Rattle.division.proofs.whole.begun.Goals.{in-Some+then-below, in-None}
 pub widen-init : goal.widen-init
 widen-init g c = (omega arith, sym (one-mul _), λ h. absurd (omega arith), c.requires)
 
-pub overflow-add-place : goal.overflow-add-place
-overflow-add-place g c =
+pub overflow_add-place : goal.overflow_add-place
+overflow_add-place g c =
     let number = g.T.CountingNumber.number in
     let few = few_places c.widen.place (number c.widen.unit) (number c.args.d) c.widen.invariant.1 c.requires (omega (arith, g.met.T.CountingNumber.within c.widen.unit, g.met.T.CountingNumber.widest)) in
     omega arith
@@ -39,7 +39,7 @@ returns g c =
     let inv = c.widen.invariant in
     let bound = g.met.T.CountingNumber.within c.args.n in
     let below : n < 10 * u =
-    elim c.match-checked-mul.branch [
+    elim c.match-checked_mul.branch [
       | in-Some+then-below w ↦
           let next = rw c.ten-ten.ensures at w.in-Some.ensures.1 in
           let less = w.if-below.ensures.0 refl in

@@ -10,11 +10,11 @@ returns-then-scale-from g c =
     let n : ℕ = g.T.CountingNumber.number c.args.n in
     let d : ℕ = g.T.CountingNumber.number c.args.d in
     let s : ℕ = c.args.scale in
-    let z : ℕ = c.leading-zeros-zeros.result in
-    let weight = ap (λ x. to_z w16 (of_z w16 x)) c.below-weight.ensures ∙ below_bits (s / 4) (omega arith) in (
+    let z : ℕ = c.leading_zeros-zeros.result in
+    let weight = ap (λ x. to_z w16 (of_z w16 x)) c.below_weight.ensures ∙ below_bits (s / 4) (omega arith) in (
       refl,
       λ w. subst (Sized n d w s (Below (z - z % 4)) 0) (sym weight)
-          (sized_none n d s z w c.requires.fraction.0 c.requires.fraction.1 c.leading-zeros-zeros.ensures (omega arith)),
+          (sized_none n d s z w c.requires.fraction.0 c.requires.fraction.1 c.leading_zeros-zeros.ensures (omega arith)),
     )
 
 pub returns : goal.returns
@@ -22,10 +22,10 @@ returns g c =
     let n : ℕ = g.T.CountingNumber.number c.args.n in
     let d : ℕ = g.T.CountingNumber.number c.args.d in
     let s : ℕ = c.args.scale in
-    let z : ℕ = c.leading-zeros-zeros.result in
-    let weight = ap (λ x. to_z w16 (of_z w16 x)) (c.below-weight-2.ensures ∙ ap negsuc c.from-left-out.ensures) ∙ below_bits (z / 4) (omega arith) in
-    let count : fours s - z / 4 ≡ c.groups-for.result - c.from-left-out.result = omega arith in (
+    let z : ℕ = c.leading_zeros-zeros.result in
+    let weight = ap (λ x. to_z w16 (of_z w16 x)) (c.below_weight-2.ensures ∙ ap negsuc c.from-left_out.ensures) ∙ below_bits (z / 4) (omega arith) in
+    let count : fours s - z / 4 ≡ c.groups_for.result - c.from-left_out.result = omega arith in (
       refl,
-      λ w. subst (λ k. Sized n d w s (Below (z - z % 4)) k (to_z w16 (of_z w16 c.below-weight-2.result))) count (subst (Sized n d w s (Below (z - z % 4)) (fours s - z / 4)) (sym weight)
-          (sized_some n d s z w c.requires.fraction.0 c.requires.fraction.1 c.leading-zeros-zeros.ensures (omega arith))),
+      λ w. subst (λ k. Sized n d w s (Below (z - z % 4)) k (to_z w16 (of_z w16 c.below_weight-2.result))) count (subst (Sized n d w s (Below (z - z % 4)) (fours s - z / 4)) (sym weight)
+          (sized_some n d s z w c.requires.fraction.0 c.requires.fraction.1 c.leading_zeros-zeros.ensures (omega arith))),
     )

@@ -8,11 +8,11 @@ use Rattle.numeric_write.specs.declared.shape.Shape.TheVariants.{Mixed}
 use Rattle.numeric_write.proofs.Measuring.{apart, below_is, below_rest, above_is, sized_as, scale_from, scale_some, scale_within, width_quotient, sized_quotient, sized_mixed}
 use Rattle.numeric_write.proofs.measure.measure.Goals as goal
 
-pub below-one-requires : goal.below-one-requires
-below-one-requires g c =
+pub below_one-requires : goal.below_one-requires
+below_one-requires g c =
     let n : ℕ = g.T.CountingNumber.number c.args.n in
     let d : ℕ = g.T.CountingNumber.number c.args.d in
-    let small : n < d = below_is n d c.requires.d (sym c.divided-whole.ensures.0 ∙ c.is-zero.ensures.0 c.if-is-zero.true) in
+    let small : n < d = below_is n d c.requires.d (sym c.divided-whole.ensures.0 ∙ c.is_zero.ensures.0 c.if-is_zero.true) in
     let r : ℕ = g.T.CountingNumber.number c.divided-whole.result.1 in
     let rest : r ≡ n = c.divided-whole.ensures.1 ∙ below_rest n d small in
     record {
@@ -20,24 +20,24 @@ below-one-requires g c =
       scale = (omega (arith, scale_some d r c.args.precision (omega (arith, c.requires.n)) c.requires.precision.0), omega (arith, scale_within d r c.args.precision, c.requires.precision.1));
     }
 
-pub returns-then-is-zero : goal.returns-then-is-zero
-returns-then-is-zero g c =
+pub returns-then-is_zero : goal.returns-then-is_zero
+returns-then-is_zero g c =
     let n : ℕ = g.T.CountingNumber.number c.args.n in
     let d : ℕ = g.T.CountingNumber.number c.args.d in
     let r : ℕ = g.T.CountingNumber.number c.divided-whole.result.1 in
-    let is = c.below-one.result in
-    let same = c.below-one.ensures.0 in
+    let is = c.below_one.result in
+    let same = c.below_one.ensures.0 in
     record {
-      scale_is = same ∙ scale_from n d c.args.precision r c.fraction-length-scale.result c.divided-whole.ensures.1 c.fraction-length-scale.ensures;
-      sized = subst (λ s. Sized n d c.args.places s is.shape is.groups is.weight) (sym same) (c.below-one.ensures.1 c.args.places);
+      scale_is = same ∙ scale_from n d c.args.precision r c.fraction_length-scale.result c.divided-whole.ensures.1 c.fraction_length-scale.ensures;
+      sized = subst (λ s. Sized n d c.args.places s is.shape is.groups is.weight) (sym same) (c.below_one.ensures.1 c.args.places);
     }
 
-pub whole-number-requires : goal.whole-number-requires
-whole-number-requires g c =
+pub whole_number-requires : goal.whole_number-requires
+whole_number-requires g c =
     let n : ℕ = g.T.CountingNumber.number c.args.n in
     let d : ℕ = g.T.CountingNumber.number c.args.d in
     let x : ℕ = g.T.CountingNumber.number c.divided-whole.result.0 in
-    let some : x ≡ 0 → ⊥ = λ z. apart c.is-zero.result (c.is-zero.ensures.1 z) c.if-is-zero.false in
+    let some : x ≡ 0 → ⊥ = λ z. apart c.is_zero.result (c.is_zero.ensures.1 z) c.if-is_zero.false in
     (omega (arith, some), subst (λ y. Width y 1 c.args.places) (sym c.divided-whole.ensures.0) (width_quotient n d c.args.places c.requires.d c.requires.places))
 
 pub returns-then-scale-eq0 : goal.returns-then-scale-eq0
@@ -48,13 +48,13 @@ returns-then-scale-eq0 g c =
     let r : ℕ = g.T.CountingNumber.number c.divided-whole.result.1 in
     let w : ℕ = c.args.places in
     let is = c.whole_number.result in
-    let some : x ≡ 0 → ⊥ = λ z. apart c.is-zero.result (c.is-zero.ensures.1 z) c.if-is-zero.false in
+    let some : x ≡ 0 → ⊥ = λ z. apart c.is_zero.result (c.is_zero.ensures.1 z) c.if-is_zero.false in
     let same = c.whole_number.ensures.0 in
     let quotient : Sized (n / d) 1 w 0 is.shape is.groups is.weight =
     subst (λ y. Sized y 1 w 0 is.shape is.groups is.weight) c.divided-whole.ensures.0 c.whole_number.ensures.1 in
     let above : 0 < n / d = omega (arith, some, c.divided-whole.ensures.0) in
     record {
-      scale_is = same ∙ sym c.if-scale-eq0.true ∙ scale_from n d c.args.precision r c.fraction-length-scale.result c.divided-whole.ensures.1 c.fraction-length-scale.ensures;
+      scale_is = same ∙ sym c.if-scale-eq0.true ∙ scale_from n d c.args.precision r c.fraction_length-scale.result c.divided-whole.ensures.1 c.fraction_length-scale.ensures;
       sized = subst (λ s. Sized n d w s is.shape is.groups is.weight) (sym same) (sized_quotient n d w is.groups is.shape is.weight (above_is n d c.requires.d above) above quotient);
     }
 
@@ -62,7 +62,7 @@ pub mixed-requires : goal.mixed-requires
 mixed-requires g c =
     let d : ℕ = g.T.CountingNumber.number c.args.d in
     let r : ℕ = g.T.CountingNumber.number c.divided-whole.result.1 in
-    (c.requires.places.some, omega (arith, c.fraction-length-scale.ensures, scale_within d r c.args.precision, c.requires.precision.1))
+    (c.requires.places.some, omega (arith, c.fraction_length-scale.ensures, scale_within d r c.args.precision, c.requires.precision.1))
 
 pub returns : goal.returns
 returns g c =
@@ -71,12 +71,12 @@ returns g c =
     let x : ℕ = g.T.CountingNumber.number c.divided-whole.result.0 in
     let r : ℕ = g.T.CountingNumber.number c.divided-whole.result.1 in
     let w : ℕ = c.args.places in
-    let s : ℕ = c.fraction-length-scale.result in
-    let some : x ≡ 0 → ⊥ = λ z. apart c.is-zero.result (c.is-zero.ensures.1 z) c.if-is-zero.false in
+    let s : ℕ = c.fraction_length-scale.result in
+    let some : x ≡ 0 → ⊥ = λ z. apart c.is_zero.result (c.is_zero.ensures.1 z) c.if-is_zero.false in
     let above : 0 < n / d = omega (arith, some, c.divided-whole.ensures.0) in
     let more : 0 < s = omega (arith, c.if-scale-eq0.false) in
     record {
-      scale_is = c.mixed.ensures.1 ∙ scale_from n d c.args.precision r s c.divided-whole.ensures.1 c.fraction-length-scale.ensures;
+      scale_is = c.mixed.ensures.1 ∙ scale_from n d c.args.precision r s c.divided-whole.ensures.1 c.fraction_length-scale.ensures;
       sized = sized_as n d w s c.mixed.result.shape c.mixed.result.scale c.mixed.result.groups c.mixed.result.weight c.mixed.ensures
           (sized_mixed n d s w c.requires.d (λ z. omega arith) (above_is n d c.requires.d above) c.requires.places more);
     }

@@ -2,8 +2,8 @@ use Rattle.std.proofs.Common.{◌≡◌, ℕ, ◌+◌, ◌*◌, ◌/◌, ◌%◌
 use Rattle.numeric_write.proofs.Measuring.{few_zeros, zeros_more, apart}
 use Rattle.numeric_write.proofs.measure.trailing_zero_groups.Goals as goal
 
-pub overflow-add-zeros : goal.overflow-add-zeros
-overflow-add-zeros g c =
+pub overflow_add-zeros : goal.overflow_add-zeros
+overflow_add-zeros g c =
     let x : ℕ = g.T.CountingNumber.number c.args.whole in
     let r : ℕ = g.T.CountingNumber.number c.groups.rest in
     let narrow : x < 2 ^ 64 = omega (arith, g.met.T.CountingNumber.within c.args.whole, g.met.T.CountingNumber.widest) in
@@ -13,18 +13,18 @@ pub groups-preserved : goal.groups-preserved
 groups-preserved g c =
     let x : ℕ = g.T.CountingNumber.number c.args.whole in
     let r : ℕ = g.T.CountingNumber.number c.groups.rest in
-    let base : g.T.CountingNumber.number c.from-u16-base.result ≡ 10000 = c.from-u16-base.ensures in
+    let base : g.T.CountingNumber.number c.from_u16-base.result ≡ 10000 = c.from_u16-base.ensures in
     let above : g.T.CountingNumber.number c.divided-above.result.0 ≡ r / 10000 = c.divided-above.ensures.0 ∙ ap (λ b. r / b) base in
-    let last : r % 10000 ≡ 0 = sym (c.divided-above.ensures.1 ∙ ap (λ b. r % b) base) ∙ c.is-zero.ensures.0 c.if-not-is-zero.false in
+    let last : r % 10000 ≡ 0 = sym (c.divided-above.ensures.1 ∙ ap (λ b. r % b) base) ∙ c.is_zero.ensures.0 c.if-not-is_zero.false in
     (omega (arith, c.groups.invariant.0), ap (λ k. k * 10000 ^ (c.groups.zeros + 1)) above ∙ zeros_more x r c.groups.zeros last c.groups.invariant.1)
 
 pub returns : goal.returns
 returns g c =
     let r : ℕ = g.T.CountingNumber.number c.groups.rest in
-    let base : g.T.CountingNumber.number c.from-u16-base.result ≡ 10000 = c.from-u16-base.ensures in
+    let base : g.T.CountingNumber.number c.from_u16-base.result ≡ 10000 = c.from_u16-base.ensures in
     let group : g.T.CountingNumber.number c.divided-above.result.1 ≡ r % 10000 = c.divided-above.ensures.1 ∙ ap (λ b. r % b) base in
     record {
       front = r;
       zeros = c.groups.invariant.1;
-      last = λ z. apart c.is-zero.result (c.is-zero.ensures.1 (group ∙ z)) c.if-not-is-zero.true;
+      last = λ z. apart c.is_zero.result (c.is_zero.ensures.1 (group ∙ z)) c.if-not-is_zero.true;
     }

@@ -35,7 +35,7 @@ returns g c =
     let d' : ℕ = g.T.CountingNumber.number c.in-Ended.state.divisor in
     let dd : d' ≡ d = ap g.T.CountingNumber.number whole.1 in
     let rr : r ≡ n = whole.3.1.state ∙ ap (rest d n w) single ∙ lone_rest n d w c.requires.below one in
-    let after : ℕ = min c.divide-integral.new.sink.limit 65535 - c.divide-integral.new.sink.taken in
+    let after : ℕ = min c.divide_integral.new.sink.limit 65535 - c.divide_integral.new.sink.taken in
     let left : after ≡ k = omega (arith, whole.3.1.left, c.new-zeros.ensures.left) in
     let went = c.in-Ok.ensures.resumes in (
       went.0 ∙ whole.1,

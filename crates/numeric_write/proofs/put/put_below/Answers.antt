@@ -9,8 +9,8 @@ use Rattle.numeric.specs.Package.{groups_of}
 use Rattle.numeric_write.proofs.Putting.{coming_less, coming_rest, rest_below, held_after, ended_fraction, not_refused}
 use Rattle.numeric_write.proofs.put.put_below.Goals as goal
 
-pub after-zeros-fraction-requires : goal.after-zeros-fraction-requires
-after-zeros-fraction-requires g c =
+pub after_zeros-fraction-requires : goal.after_zeros-fraction-requires
+after_zeros-fraction-requires g c =
     let n : ℕ = g.T.CountingNumber.number c.args.state.rest in
     let d : ℕ = g.T.CountingNumber.number c.args.state.divisor in
     record { begun = c.requires.begun; below = c.requires.below; some = coming_less d n c.args.scale c.args.passed (omega (arith, c.requires.passed.2, c.requires.scale)) }
@@ -19,9 +19,9 @@ pub unreachable-requires : goal.unreachable-requires
 unreachable-requires g c =
     let n : ℕ = g.T.CountingNumber.number c.args.state.rest in
     let d : ℕ = g.T.CountingNumber.number c.args.state.divisor in
-    let fr = c.after-zeros-fraction.result in
+    let fr = c.after_zeros-fraction.result in
     let small : g.T.CountingNumber.number fr.remainder < g.T.CountingNumber.number fr.divisor =
-    omega (arith, ap g.T.CountingNumber.number c.after-zeros-fraction.ensures.0, c.after-zeros-fraction.ensures.1, rest_below n d c.args.passed c.requires.below c.requires.passed.1, c.requires.passed.1) in
+    omega (arith, ap g.T.CountingNumber.number c.after_zeros-fraction.ensures.0, c.after_zeros-fraction.ensures.1, rest_below n d c.args.passed c.requires.below c.requires.passed.1, c.requires.passed.1) in
     not_refused c.in-Err.field-0.fault (g.T.CountingNumber.number fr.divisor) (g.T.CountingNumber.number fr.remainder) small c.in-Err.ensures.resumes.2.1
 
 pub returns : goal.returns
@@ -30,13 +30,13 @@ returns g c =
     let d : ℕ = g.T.CountingNumber.number c.args.state.divisor in
     let k : ℕ = c.args.passed in
     let s : ℕ = c.args.scale in
-    let fr = c.after-zeros-fraction.result in
+    let fr = c.after_zeros-fraction.result in
     let d' : ℕ = g.T.CountingNumber.number fr.divisor in
     let r : ℕ = g.T.CountingNumber.number fr.remainder in
-    let dd : d' ≡ d = ap g.T.CountingNumber.number c.after-zeros-fraction.ensures.0 in
-    let rr : r ≡ rest d n 0 k = c.after-zeros-fraction.ensures.1 in
+    let dd : d' ≡ d = ap g.T.CountingNumber.number c.after_zeros-fraction.ensures.0 in
+    let rr : r ≡ rest d n 0 k = c.after_zeros-fraction.ensures.1 in
     let first = c.new-sink.result in
-    let last = c.divide-rem-resume.new.sink in
+    let last = c.divide_rem_resume.new.sink in
     let went = c.in-Ok.ensures.resumes.1.2 in
     let left : first.left ≡ s - k = omega (arith, c.new-sink.ensures.begins.left) in
     let sum : k + (s - k) ≡ s = omega arith in

@@ -21,8 +21,8 @@ returns-then-extent-eq0 g c =
     let none : groups_of (cut n d s) s ≡ [] = nil_from_length (groups_of (cut n d s) s) (sym c.requires.sized.groups_are ∙ c.if-extent-eq0.true) in
     sym (ap (λ gs. placed b 0 (flat_map word_bytes gs)) none ∙ placed_none b 0)
 
-pub put-below-requires : goal.put-below-requires
-put-below-requires g c =
+pub put_below-requires : goal.put_below-requires
+put_below-requires g c =
     let n : ℕ = g.T.CountingNumber.number c.args.state.rest in
     let d : ℕ = g.T.CountingNumber.number c.args.state.divisor in
     let w : ℕ = c.args.state.place in

@@ -18,14 +18,14 @@ returns g c =
     let w : ℕ = c.args.state.place in
     let s : ℕ = c.args.scale in
     let first = c.new-sink.result in
-    let mid = c.divide-integral.new.sink in
-    let last = c.divide-rem-resume.new.sink in
-    let f : ℕ = c.places-before.result in
+    let mid = c.divide_integral.new.sink in
+    let last = c.divide_rem_resume.new.sink in
+    let f : ℕ = c.places_before.result in
     let some : 0 < d = c.requires.begun.0.divisor in
     let enough = c.requires.begun.3.enough in
     let place = c.place-whole.ensures in
     let left : first.left ≡ w + s =
-    left_mixed w s f (c.from.result + s) (length c.args.buffer.now) first.left (c.places-before.ensures ∙ ap (λ x. (4 - x % 4) % 4) place)
+    left_mixed w s f (c.from.result + s) (length c.args.buffer.now) first.left (c.places_before.ensures ∙ ap (λ x. (4 - x % 4) % 4) place)
     (ap (λ x. x + s) (c.from.ensures ∙ place)) c.requires.room c.new-sink.ensures.begins.left in
     let whole = c.in-Ended.ensures.went in
     let all : min first.left w ≡ w = omega arith in
@@ -48,6 +48,6 @@ returns g c =
     ended_fraction c.args.buffer.now first last c.finish.new.self.0 (cut n d s) s (f % 4) (w + s)
     on c.new-sink.ensures.buffer.0 c.new-sink.ensures.buffer.2 c.new-sink.ensures.begins.taken
     (c.new-sink.ensures.places (omega (arith, c.requires.scale.0)))
-    (omega (arith, went.taken, whole.3.1.taken, c.new-sink.ensures.begins.taken, more)) held c.requires.scale.0 (aligned_mixed w s f (c.places-before.ensures ∙ ap (λ x. (4 - x % 4) % 4) place)) c.finish.ensures in
+    (omega (arith, went.taken, whole.3.1.taken, c.new-sink.ensures.begins.taken, more)) held c.requires.scale.0 (aligned_mixed w s f (c.places_before.ensures ∙ ap (λ x. (4 - x % 4) % 4) place)) c.finish.ensures in
     let lender = on.lender ∙ c.new-sink.ensures.buffer.1 in
     search rules

@@ -18,28 +18,28 @@ returns g c =
     let z : ℕ = c.args.zeros in
     let e = c.requires.zeros.1 in
     let first = c.new-sink.result in
-    let last = c.divide-integral-rest.new.sink in
+    let last = c.divide_integral-rest.new.sink in
     let k : ℕ = w - 4 * z in
     let some : 0 < d = c.requires.begun.0.divisor in
-    let f : ℕ = c.places-before.result in
+    let f : ℕ = c.places_before.result in
     let k_is : c.from.result ≡ k = c.from.ensures ∙ ap (λ x. x - 4 * z) c.place.ensures in
-    let before : f ≡ (4 - k % 4) % 4 = c.places-before.ensures ∙ ap (λ x. (4 - (x - 4 * z) % 4) % 4) c.place.ensures in
+    let before : f ≡ (4 - k % 4) % 4 = c.places_before.ensures ∙ ap (λ x. (4 - (x - 4 * z) % 4) % 4) c.place.ensures in
     let rest : c.from.result + 4 * z ≡ w = omega (arith, c.requires.zeros.0) in
     let left : first.left ≡ k =
     left_whole w z f c.from.result (length c.args.buffer.now) first.left (before ∙ ap (λ x. (4 - x % 4) % 4) (sym k_is)) rest c.requires.room c.new-sink.ensures.begins.left ∙ k_is in
-    let went = integrated g.T.CountingNumber.number g.T.CountingNumber.greatest shifted c.args.state (groups.taken first) (groups.left first) (groups.held first) (groups.taken last) (groups.left last) (groups.held last) c.divide-integral-rest.result c.divide-integral-rest.ensures.went in
+    let went = integrated g.T.CountingNumber.number g.T.CountingNumber.greatest shifted c.args.state (groups.taken first) (groups.left first) (groups.held first) (groups.taken last) (groups.left last) (groups.held last) c.divide_integral-rest.result c.divide_integral-rest.ensures.went in
     let all : min first.left w ≡ k = omega arith in
     let held : groups.held last ≡ e.front =
     went.1 ∙ ap (λ h. fed shifted h (digits d n w (min first.left w))) c.new-sink.ensures.begins.held ∙ ap (λ x. fed shifted 0 (digits d n w x)) all
     ∙ held_front n d w z e.front some c.requires.begun.3.enough c.requires.zeros.0 e.zeros in
     let final : c.finish.new.self.0 ≡ placed c.args.buffer.now 0 (flat_map word_bytes (groups_of (cut n d 0) 0)) =
     ended_number c.args.buffer.now first last c.finish.new.self.0 (cut n d 0) z (f % 4) k
-    c.divide-integral-rest.ensures.on c.new-sink.ensures.buffer.0 c.new-sink.ensures.buffer.2 c.new-sink.ensures.begins.taken
+    c.divide_integral-rest.ensures.on c.new-sink.ensures.buffer.0 c.new-sink.ensures.buffer.2 c.new-sink.ensures.begins.taken
     (c.new-sink.ensures.places (omega (arith, c.requires.zeros.0)))
     (omega (arith, went.0, c.new-sink.ensures.begins.taken))
     (omega (arith, whole_cut n d, whole_some n d some c.requires.some))
     (aligned_whole k f before)
     (ap (λ x. x * 10000 ^ z) held ∙ e.zeros ∙ sym (whole_cut n d))
     (λ none. e.last (ap (λ x. x % 10000) (sym held) ∙ none)) c.finish.ensures in
-    let lender = c.divide-integral-rest.ensures.on.lender ∙ c.new-sink.ensures.buffer.1 in
+    let lender = c.divide_integral-rest.ensures.on.lender ∙ c.new-sink.ensures.buffer.1 in
     search rules

@@ -8,8 +8,8 @@ use Rattle.numeric_write.proofs.writer.fraction_to_sql_buf.Goals as goal
 
 pub returns : goal.returns
 returns g c = record {
-  outcome = subst (λ q. Outcome q c.args.buffer.now c.args.used.now c.write-within.new.buffer c.write-within.new.used c.write-within.result)
-      (ap (written_within (meant g.T.CountingNumber.number c.args.source.now)) c.in-force.ensures ∙ written_in_force (meant g.T.CountingNumber.number c.args.source.now) c.args.precision)
-      c.write-within.ensures;
+  outcome = subst (λ q. Outcome q c.args.buffer.now c.args.used.now c.write_within.new.buffer c.write_within.new.used c.write_within.result)
+      (ap (written_within (meant g.T.CountingNumber.number c.args.source.now)) c.in_force.ensures ∙ written_in_force (meant g.T.CountingNumber.number c.args.source.now) c.args.precision)
+      c.write_within.ensures;
   faithful = writing_faithful;
 }

@@ -20,15 +20,15 @@ returns g c =
     let q : Package = package_of c.args.sign (cut n d e.scale) e.scale in
     let hs : List ℕ = flat_map word_bytes (length q.groups ∷ signed_word q.weight ∷ c.args.sign ∷ e.scale ∷ []) in
     let fits : SFits w16 e.weight = search rules in
-    let head : c.put-header.new.part ≡ placed part 0 hs =
-    c.put-header.ensures
+    let head : c.put_header.new.part ≡ placed part 0 hs =
+    c.put_header.ensures
     ∙ ap (λ z. placed part 0 (flat_map word_bytes (e.groups ∷ signed_word z ∷ c.args.sign ∷ e.scale ∷ []))) (to_z-of_z w16 e.weight fits ∙ c.requires.sized.weight_is)
     ∙ ap (λ k. placed part 0 (flat_map word_bytes (k ∷ signed_word q.weight ∷ c.args.sign ∷ e.scale ∷ []))) c.requires.sized.groups_are in
-    let whole = placed_lent c.put-header.new.part c.put-groups.new.buffer 8 (flat_map word_bytes q.groups) c.put-groups.ensures
+    let whole = placed_lent c.put_header.new.part c.put_groups.new.buffer 8 (flat_map word_bytes q.groups) c.put_groups.ensures
     ∙ ap (λ l. placed l 8 (flat_map word_bytes q.groups)) head
     ∙ placed_append part 0 hs (flat_map word_bytes q.groups) (omega arith) in
     record {
       room = omega (arith, c.requires.sized.groups_are);
-      bytes = placed_lent xs (put_mid 8 (length c.put-header.new.part - 8) c.put-header.new.part c.put-groups.new.buffer) u (package_bytes q) whole;
+      bytes = placed_lent xs (put_mid 8 (length c.put_header.new.part - 8) c.put_header.new.part c.put_groups.new.buffer) u (package_bytes q) whole;
       count = omega (arith, c.requires.sized.groups_are);
     }

@@ -11,15 +11,15 @@ use Rattle.numeric_write.proofs.Measuring.{apart}
 use Rattle.numeric_write.proofs.Writing.{written_zero, written_some, scale_bound, scale_again}
 use Rattle.numeric_write.proofs.writer.put_rational.Goals as goal
 
-pub returns-then-is-zero : goal.returns-then-is-zero
-returns-then-is-zero g c =
+pub returns-then-is_zero : goal.returns-then-is_zero
+returns-then-is_zero g c =
     let n : ℕ = g.T.CountingNumber.number c.args.n in
     let d : ℕ = g.T.CountingNumber.number c.args.d in
-    subst (λ q. Outcome q c.args.buffer.now c.args.used.now c.put-bare.new.buffer c.put-bare.new.used c.put-bare.result)
-    (sym (written_zero c.args.sign n d c.args.precision (c.is-zero.ensures.0 c.if-is-zero.true))) c.put-bare.ensures
+    subst (λ q. Outcome q c.args.buffer.now c.args.used.now c.put_bare.new.buffer c.put_bare.new.used c.put_bare.result)
+    (sym (written_zero c.args.sign n d c.args.precision (c.is_zero.ensures.0 c.if-is_zero.true))) c.put_bare.ensures
 
-pub put-measured-requires : goal.put-measured-requires
-put-measured-requires g c =
+pub put_measured-requires : goal.put_measured-requires
+put_measured-requires g c =
     let n : ℕ = g.T.CountingNumber.number c.args.n in
     let d : ℕ = g.T.CountingNumber.number c.args.d in
     let p : ℕ = c.args.precision in
@@ -52,11 +52,11 @@ returns g c =
     let n' : ℕ = g.T.CountingNumber.number c.in-Ok.state.rest in
     let d' : ℕ = g.T.CountingNumber.number c.in-Ok.state.divisor in
     let s : ℕ = c.measure-extent.result.scale in
-    let some : n ≡ 0 → ⊥ = λ z. apart c.is-zero.result (c.is-zero.ensures.1 z) c.if-is-zero.false in
-    let same : package_of c.sign-word-of.result (cut n' d' s) s ≡ written_within (rational c.args.sign n d) p =
-    ap (λ k. package_of k (cut n' d' s) s) c.sign-word-of.ensures
+    let some : n ≡ 0 → ⊥ = λ z. apart c.is_zero.result (c.is_zero.ensures.1 z) c.if-is_zero.false in
+    let same : package_of c.sign_word_of.result (cut n' d' s) s ≡ written_within (rational c.args.sign n d) p =
+    ap (λ k. package_of k (cut n' d' s) s) c.sign_word_of.ensures
     ∙ ap (λ x. package_of (sign_word c.args.sign) (cut x d' s) s) (ap g.T.CountingNumber.number begun.1)
     ∙ ap (λ x. package_of (sign_word c.args.sign) (cut n x s) s) (ap g.T.CountingNumber.number begun.2)
     ∙ ap (λ x. package_of (sign_word c.args.sign) (cut n d x) x) c.measure-extent.ensures.scale_is
     ∙ sym (written_some c.args.sign n d p some) in
-    subst (λ q. Outcome q c.args.buffer.now c.args.used.now c.put-measured.new.buffer c.put-measured.new.used c.put-measured.result) same c.put-measured.ensures
+    subst (λ q. Outcome q c.args.buffer.now c.args.used.now c.put_measured.new.buffer c.put_measured.new.used c.put_measured.result) same c.put_measured.ensures

@@ -4,9 +4,9 @@ use Rattle.fraction.proofs.generic_fraction.Ratio.lowest.Goals as goal
 pub quotient-requires : goal.quotient-requires
 quotient-requires g c = divisor_positive _ _ _ c.requires c.gcd-common.ensures
 
-pub quotient-requires-in-default : goal.quotient-requires-in-default
-quotient-requires-in-default g c = divisor_positive _ _ _ c.requires c.gcd-common.ensures
+pub quotient-requires-in_default : goal.quotient-requires-in_default
+quotient-requires-in_default g c = divisor_positive _ _ _ c.requires c.gcd-common.ensures
 
-pub returns-in-default : goal.returns-in-default
-returns-in-default g c =
-    simp (c.quotient.ensures, c.quotient-in-default.ensures) (quotients_lowest _ _ _ c.requires c.gcd-common.ensures)
+pub returns-in_default : goal.returns-in_default
+returns-in_default g c =
+    simp (c.quotient.ensures, c.quotient-in_default.ensures) (quotients_lowest _ _ _ c.requires c.gcd-common.ensures)

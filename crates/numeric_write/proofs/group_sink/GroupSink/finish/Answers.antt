@@ -4,8 +4,8 @@ use Rattle.numeric_write.proofs.Filling.{finished_none, held_filled}
 use Rattle.numeric_write.proofs.group_sink.GroupSink.finish.Goals as goal
 use Rattle.numeric_write.proofs.group_sink.GroupSink.finish.Goals.{then-places-gt0, else-places-gt0}
 
-pub put-last-requires : goal.put-last-requires
-put-last-requires c = record { room = omega (arith, c.args.self.room); small = c.filled.ensures.1 }
+pub put_last-requires : goal.put_last-requires
+put_last-requires c = record { room = omega (arith, c.args.self.room); small = c.filled.ensures.1 }
 
 pub returns : goal.returns
 returns c before l =
@@ -16,7 +16,7 @@ returns c before l =
       | then-places-gt0 w ↦
           let e : held b s.count 4 w.filled.result ≡ h =
           ap (held b s.count 4) w.filled.ensures.0 ∙ held_filled b s.count s.places s.group w.if-places-gt0.true s.open in
-          subst (λ x. Finished before x h) (sym w.buffer-is) (subst (Finished before w.put-last.new.buffer) e (w.put-last.ensures before l))
+          subst (λ x. Finished before x h) (sym w.buffer-is) (subst (Finished before w.put_last.new.buffer) e (w.put_last.ensures before l))
       | else-places-gt0 w ↦
           subst (λ x. Finished before x h) (sym w.buffer-is) (finished_none before b s.count s.places s.group l (omega arith) s.below)
     ]

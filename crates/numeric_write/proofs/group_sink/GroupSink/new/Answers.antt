@@ -6,15 +6,15 @@ use Rattle.numeric_write.specs.declared.group_state.GroupState.TheVariants.{Skip
 use Rattle.numeric_write.proofs.Filling.{going_after, skipping_fills, held_none, first_some, first_open, first_room}
 use Rattle.numeric_write.proofs.group_sink.GroupSink.new.Goals as goal
 
-pub invariant-of-result : goal.invariant-of-result
-invariant-of-result c =
+pub invariant_of-result : goal.invariant_of-result
+invariant_of-result c =
     let b = ltb 0 c.min-left.result in
     let never : fills c.after.result ≡ true → ⊥ = λ h. skipping_fills b (rw c.after.ensures at h) in
     let len = length c.args.buffer.now in
-    let room = first_room c.args.places c.min-left.result len c.first-places.result c.first-places.ensures (omega arith) in (
-      omega (arith, one-le-pow c.first-places.result 10 (omega arith)),
+    let room = first_room c.args.places c.min-left.result len c.first_places.result c.first_places.ensures (omega arith) in (
+      omega (arith, one-le-pow c.first_places.result 10 (omega arith)),
       (
-        first_open c.args.places c.min-left.result c.first-places.result c.first-places.ensures,
+        first_open c.args.places c.min-left.result c.first_places.result c.first_places.ensures,
         (
           omega (arith, room),
           (
@@ -30,7 +30,7 @@ invariant-of-result c =
 
 pub returns : goal.returns
 returns c = record {
-  begins = record { taken = refl; left = omega arith; held = held_none c.args.buffer.now 0 c.first-places.result 0 refl refl };
-  places = λ some. first_some c.args.places c.min-left.result c.first-places.result c.first-places.ensures some;
+  begins = record { taken = refl; left = omega arith; held = held_none c.args.buffer.now 0 c.first_places.result 0 refl refl };
+  places = λ some. first_some c.args.places c.min-left.result c.first_places.result c.first_places.ensures some;
   buffer = (refl, refl, refl);
 }

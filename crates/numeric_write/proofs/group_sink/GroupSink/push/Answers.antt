@@ -6,8 +6,8 @@ use Rattle.numeric_write.specs.declared.group_state.GroupState.TheVariants.{Fill
 use Rattle.numeric_write.proofs.Filling.{going_after, filling_skips, power_more, held_more}
 use Rattle.numeric_write.proofs.group_sink.GroupSink.push.Goals as goal
 
-pub invariant-of-self : goal.invariant-of-self
-invariant-of-self c =
+pub invariant_of-self : goal.invariant_of-self
+invariant_of-self c =
     let s = c.args.self.now in
     let b = ltb 0 (s.left - 1) in
     let is = c.after-self.ensures in

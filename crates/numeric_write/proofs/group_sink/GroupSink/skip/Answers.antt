@@ -5,8 +5,8 @@ use Rattle.numeric_write.specs.declared.group_state.GroupState.TheVariants.{Skip
 use Rattle.numeric_write.proofs.Filling.{going_after, skipping_fills, held_none}
 use Rattle.numeric_write.proofs.group_sink.GroupSink.skip.Goals as goal
 
-pub invariant-of-self : goal.invariant-of-self
-invariant-of-self c =
+pub invariant_of-self : goal.invariant_of-self
+invariant_of-self c =
     let s = c.args.self.now in
     let b = ltb 0 (s.left - 1) in
     let is = c.after-self.ensures in

@@ -6,8 +6,8 @@ use Rattle.packed.proofs.packed_decimal.PackedDecimal.few_times.Goals as goal
 pub loop-less-init : goal.loop-less-init
 loop-less-init c = omega arith
 
-pub overflow-add-times : goal.overflow-add-times
-overflow-add-times c = record { fits = omega (arith, few _ _ c.loop-less.times _ c.requires.few c.loop-less.invariant) }
+pub overflow_add-times : goal.overflow_add-times
+overflow_add-times c = record { fits = omega (arith, few _ _ c.loop-less.times _ c.requires.few c.loop-less.invariant) }
 
 pub loop-less-preserved : goal.loop-less-preserved
 loop-less-preserved c =
@@ -16,12 +16,12 @@ loop-less-preserved c =
 pub loop-less-smaller : goal.loop-less-smaller
 loop-less-smaller c = omega (arith, c.in-Some.ensures.0, c.in-Some.ensures.1, c.requires.some)
 
-pub invariant-of-result : goal.invariant-of-result
-invariant-of-result c = ((digit_word c.loop-less.times (few _ _ c.loop-less.times _ c.requires.few c.loop-less.invariant)).0, tt)
+pub invariant_of-result : goal.invariant_of-result
+invariant_of-result c = ((digit_word c.loop-less.times (few _ _ c.loop-less.times _ c.requires.few c.loop-less.invariant)).0, tt)
 
 pub returns : goal.returns
 returns c =
-    let none = c.in-default.ensures in
+    let none = c.in_default.ensures in
     let small : decimal 16 c.loop-less.rest.word < decimal 16 c.args.by.word = omega (arith, none) in
     let parts = divided (decimal 16 c.args.self.word) (decimal 16 c.args.by.word) c.loop-less.times (decimal 16 c.loop-less.rest.word) small c.loop-less.invariant in
     let digit = digit_word c.loop-less.times (few _ _ c.loop-less.times _ c.requires.few c.loop-less.invariant) in

@@ -3,24 +3,24 @@ use Rattle.packed.proofs.Carries.{changed}
 use Rattle.packed.proofs.Sixteen.{highest, sum_passes, sum_digits, sum_value, sum_fits}
 use Rattle.packed.proofs.packed_decimal.PackedDecimal.sum.Goals as goal
 
-pub overflow-add-biased : goal.overflow-add-biased
-overflow-add-biased c = record { fits = omega (arith, highest c.args.self.word c.args.self.digits (omega arith)) }
+pub overflow_add-biased : goal.overflow_add-biased
+overflow_add-biased c = record { fits = omega (arith, highest c.args.self.word c.args.self.digits (omega arith)) }
 
-pub returns-in-err-sum : goal.returns-in-err-sum
-returns-in-err-sum c =
+pub returns-in_err-sum : goal.returns-in_err-sum
+returns-in_err-sum c =
     rw c.from-residual.ensures
-    (λ fits. omega (arith, sum_passes c.args.self.word c.args.other.word c.args.self.digits c.args.other.digits (omega arith) (omega arith) _ refl (omega (arith, c.in-err-sum.ensures))))
+    (λ fits. omega (arith, sum_passes c.args.self.word c.args.other.word c.args.self.digits c.args.other.digits (omega arith) (omega arith) _ refl (omega (arith, c.in_err-sum.ensures))))
 
 pub returns-then-sum-gt9 : goal.returns-then-sum-gt9
-returns-then-sum-gt9 c fits = omega (arith, sum_passes c.args.self.word c.args.other.word c.args.self.digits c.args.other.digits (omega arith) (omega arith) c.in-ok-sum.sum c.in-ok-sum.ensures.1 c.if-sum-gt9.true)
+returns-then-sum-gt9 c fits = omega (arith, sum_passes c.args.self.word c.args.other.word c.args.self.digits c.args.other.digits (omega arith) (omega arith) c.in_ok-sum.sum c.in_ok-sum.ensures.1 c.if-sum-gt9.true)
 
-pub invariant-of-result : goal.invariant-of-result
+pub invariant_of-result : goal.invariant_of-result
 unfolding changed
-invariant-of-result c = (sum_digits c.args.self.word c.args.other.word c.args.self.digits c.args.other.digits (omega arith) (omega arith) c.in-ok-sum.sum c.in-ok-sum.ensures.1 c.if-sum-gt9.false, tt)
+invariant_of-result c = (sum_digits c.args.self.word c.args.other.word c.args.self.digits c.args.other.digits (omega arith) (omega arith) c.in_ok-sum.sum c.in_ok-sum.ensures.1 c.if-sum-gt9.false, tt)
 
 pub returns : goal.returns
 unfolding changed
 returns c = (
-  sum_fits c.args.self.word c.args.other.word c.args.self.digits c.args.other.digits (omega arith) (omega arith) c.in-ok-sum.sum c.in-ok-sum.ensures.1 c.if-sum-gt9.false,
-  sum_value c.args.self.word c.args.other.word c.args.self.digits c.args.other.digits (omega arith) (omega arith) c.in-ok-sum.sum c.in-ok-sum.ensures.1 c.if-sum-gt9.false,
+  sum_fits c.args.self.word c.args.other.word c.args.self.digits c.args.other.digits (omega arith) (omega arith) c.in_ok-sum.sum c.in_ok-sum.ensures.1 c.if-sum-gt9.false,
+  sum_value c.args.self.word c.args.other.word c.args.self.digits c.args.other.digits (omega arith) (omega arith) c.in_ok-sum.sum c.in_ok-sum.ensures.1 c.if-sum-gt9.false,
 )

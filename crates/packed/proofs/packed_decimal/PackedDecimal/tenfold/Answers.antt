@@ -7,8 +7,8 @@ use Rattle.packed.proofs.packed_decimal.PackedDecimal.tenfold.Goals as goal
 pub returns-then-self-ne0 : goal.returns-then-self-ne0
 returns-then-self-ne0 c fits = omega (arith, tenfold_passes c.args.self.word (omega arith) (omega arith))
 
-pub invariant-of-result : goal.invariant-of-result
-invariant-of-result c =
+pub invariant_of-result : goal.invariant_of-result
+invariant_of-result c =
     let small : c.args.self.word < 2 ^ 60 = omega arith in
     let same : c.args.self.word * 16 ≡ c.args.self.word * 16 % 2 ^ 64 = omega arith in
     (subst (AllDigits 16) same (tenfold_digits c.args.self.word c.args.self.digits small), tt)
