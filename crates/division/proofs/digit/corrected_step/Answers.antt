@@ -62,18 +62,18 @@ sum-requires g c =
     let left : number c.difference.result + tens ≡ number c.trial.rest = omega (arith, c.difference.ensures, c.from_u16-whole.ensures, c.from.ensures) in
     let tenfold = rw c.ten-ten.ensures at c.product.ensures in
     let rem : ℕ = number c.product.result + number c.from_u16-over.result in
-    let e : rem + q * b ≡ 10 * number c.trial.rest = omega (arith, c.from-then-not_below.ensures, c.from_u16-over.ensures) in
+    let e : rem + q * b ≡ 10 * number c.trial.rest = omega (arith, c.from-then-not-below.ensures, c.from_u16-over.ensures) in
     omega (arith, (trial_done 10 _ _ _ _ _ _ t rem e c.requires.0).3, g.met.T.CountingNumber.within c.args.d)
 
 pub sum-rest-requires : goal.sum-rest-requires
 sum-rest-requires g c =
-    let short = c.if-not_below.ensures.0 refl in
+    let short = c.if-not-below.ensures.0 refl in
     let t = began g (goal.at.sum-rest-requires g c).At-trial in
     omega (arith, trial_rest 10 _ _ _ _ _ _ t (rw (c.from_u16-whole.ensures ∙ c.from.ensures) at short), g.met.T.CountingNumber.within c.args.r)
 
 pub trial-preserved : goal.trial-preserved
 trial-preserved g c =
-    let short = c.if-not_below.ensures.0 refl in
+    let short = c.if-not-below.ensures.0 refl in
     trial_less 10 _ _ _ _ _ _ c.trial.invariant _ (rw (c.from_u16-whole.ensures ∙ c.from.ensures) at short) c.sum-rest.ensures
 
 pub returns : goal.returns
@@ -85,6 +85,6 @@ returns g c =
     let t = began g (goal.at.returns g c).At-trial in
     let left : number c.difference.result + tens ≡ number c.trial.rest = omega (arith, c.difference.ensures, c.from_u16-whole.ensures, c.from.ensures) in
     let tenfold = rw c.ten-ten.ensures at c.product.ensures in
-    let e : number c.sum.result + q * b ≡ 10 * number c.trial.rest = omega (arith, c.from-then-not_below.ensures, c.from_u16-over.ensures, c.sum.ensures) in
+    let e : number c.sum.result + q * b ≡ 10 * number c.trial.rest = omega (arith, c.from-then-not-below.ensures, c.from_u16-over.ensures, c.sum.ensures) in
     let done = trial_done 10 _ _ _ _ _ _ t (number c.sum.result) e c.requires.0 in
     record { exact = (done.0, done.1); small = (done.2, done.3) }

@@ -5,7 +5,7 @@ use Rattle.packed.proofs.packed_decimal.PackedDecimal.difference.Goals as goal
 
 pub returns-in_err-difference : goal.returns-in_err-difference
 returns-in_err-difference c =
-    rw c.from-residual.ensures
+    rw c.from_residual.ensures
     (λ fits. omega (arith, lesser c.args.self.word c.args.other.word c.args.self.digits c.args.other.digits (omega arith) (omega arith) (omega (arith, c.in_err-difference.ensures))))
 
 pub overflow_sub-result : goal.overflow_sub-result
@@ -14,7 +14,7 @@ overflow_sub-result c = borrowed_fits c.args.self.word c.args.other.word c.args.
 
 pub invariant_of-result : goal.invariant_of-result
 unfolding changed
-invariant_of-result c = (difference_digits c.args.self.word c.args.other.word c.args.self.digits c.args.other.digits (omega arith) (omega arith) c.in_ok-difference.difference c.in_ok-difference.ensures.1 c.in_ok-difference.ensures.0, tt)
+invariant_of-result c = record { digits = difference_digits c.args.self.word c.args.other.word c.args.self.digits c.args.other.digits (omega arith) (omega arith) c.in_ok-difference.difference c.in_ok-difference.ensures.1 c.in_ok-difference.ensures.0 }
 
 pub returns : goal.returns
 unfolding changed

@@ -17,7 +17,7 @@ pub loop-less-smaller : goal.loop-less-smaller
 loop-less-smaller c = omega (arith, c.in-Some.ensures.0, c.in-Some.ensures.1, c.requires.some)
 
 pub invariant_of-result : goal.invariant_of-result
-invariant_of-result c = ((digit_word c.loop-less.times (few _ _ c.loop-less.times _ c.requires.few c.loop-less.invariant)).0, tt)
+invariant_of-result c = record { digits = (digit_word c.loop-less.times (few _ _ c.loop-less.times _ c.requires.few c.loop-less.invariant)).0 }
 
 pub returns : goal.returns
 returns c =

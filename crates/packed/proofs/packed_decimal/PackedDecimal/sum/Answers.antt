@@ -8,7 +8,7 @@ overflow_add-biased c = record { fits = omega (arith, highest c.args.self.word c
 
 pub returns-in_err-sum : goal.returns-in_err-sum
 returns-in_err-sum c =
-    rw c.from-residual.ensures
+    rw c.from_residual.ensures
     (λ fits. omega (arith, sum_passes c.args.self.word c.args.other.word c.args.self.digits c.args.other.digits (omega arith) (omega arith) _ refl (omega (arith, c.in_err-sum.ensures))))
 
 pub returns-then-sum-gt9 : goal.returns-then-sum-gt9
@@ -16,7 +16,7 @@ returns-then-sum-gt9 c fits = omega (arith, sum_passes c.args.self.word c.args.o
 
 pub invariant_of-result : goal.invariant_of-result
 unfolding changed
-invariant_of-result c = (sum_digits c.args.self.word c.args.other.word c.args.self.digits c.args.other.digits (omega arith) (omega arith) c.in_ok-sum.sum c.in_ok-sum.ensures.1 c.if-sum-gt9.false, tt)
+invariant_of-result c = record { digits = sum_digits c.args.self.word c.args.other.word c.args.self.digits c.args.other.digits (omega arith) (omega arith) c.in_ok-sum.sum c.in_ok-sum.ensures.1 c.if-sum-gt9.false }
 
 pub returns : goal.returns
 unfolding changed

@@ -11,7 +11,7 @@ pub invariant_of-result : goal.invariant_of-result
 invariant_of-result c =
     let small : c.args.self.word < 2 ^ 60 = omega arith in
     let same : c.args.self.word * 16 ≡ c.args.self.word * 16 % 2 ^ 64 = omega arith in
-    (subst (AllDigits 16) same (tenfold_digits c.args.self.word c.args.self.digits small), tt)
+    record { digits = subst (AllDigits 16) same (tenfold_digits c.args.self.word c.args.self.digits small) }
 
 pub returns : goal.returns
 returns c =
