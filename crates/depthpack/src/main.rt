@@ -8,6 +8,7 @@ mod stream;
 mod tally;
 
 use failure::Failure;
+use std::process::ExitCode;
 use std::{env, fs};
 use tally::Tally;
 
@@ -36,12 +37,14 @@ if an option is unknown or if more than one file is named. A pipe that its reade
 the program by SIGPIPE, without a message, unless that signal is ignored.
 ";
 
-fn main(rt: HostRuntime) -> Result<(), Failure> {
-    let result = run(&rt);
-    if let Err(failure) = &result {
-        let _ = eprintln!(rt; "depthpack: {failure}");
+fn main(rt: HostRuntime) -> ExitCode {
+    match run(&rt) {
+        Ok(()) => ExitCode::SUCCESS,
+        Err(failure) => {
+            let _ = eprintln!(rt; "depthpack: {failure}");
+            ExitCode::FAILURE
+        }
     }
-    result
 }
 
 enum Command {

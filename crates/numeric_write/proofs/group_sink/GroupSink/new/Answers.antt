@@ -11,22 +11,17 @@ invariant_of-result c =
     let b = ltb 0 c.min-left.result in
     let never : fills c.after.result ≡ true → ⊥ = λ h. skipping_fills b (rw c.after.ensures at h) in
     let len = length c.args.buffer.now in
-    let room = first_room c.args.places c.min-left.result len c.first_places.result c.first_places.ensures (omega arith) in (
-      omega (arith, one-le-pow c.first_places.result 10 (omega arith)),
-      (
-        first_open c.args.places c.min-left.result c.first_places.result c.first_places.ensures,
-        (
-          omega (arith, room),
-          (
-            omega arith,
-            (
-              ap going c.after.ensures ∙ going_after Skipping b refl,
-              ((λ h. refl), ((λ h. refl), ((λ h z. absurd (never h)), tt))),
-            ),
-          ),
-        ),
-      ),
-    )
+    let room = first_room c.args.places c.min-left.result len c.first_places.result c.first_places.ensures (omega arith) in
+    record {
+      below = omega (arith, one-le-pow c.first_places.result 10 (omega arith));
+      «open» = first_open c.args.places c.min-left.result c.first_places.result c.first_places.ensures;
+      room = omega (arith, room);
+      bound = omega arith;
+      going = ap going c.after.ensures ∙ going_after Skipping b refl;
+      empty = λ h. refl;
+      zeros = λ h. refl;
+      begun = λ h z. absurd (never h);
+    }
 
 pub returns : goal.returns
 returns c = record {

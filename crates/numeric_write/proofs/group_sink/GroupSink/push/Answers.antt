@@ -11,22 +11,17 @@ invariant_of-self c =
     let s = c.args.self.now in
     let b = ltb 0 (s.left - 1) in
     let is = c.after-self.ensures in
-    let never : skips c.after-self.result ≡ true → ⊥ = λ h. filling_skips b (rw is at h) in (
-      omega (arith, power_more s.places),
-      (
-        omega arith,
-        (
-          omega arith,
-          (
-            omega arith,
-            (
-              ap going is ∙ going_after Filling b refl,
-              ((λ h. absurd (never h)), ((λ h. absurd (never h)), ((λ h z. omega (arith, c.requires.first z)), tt))),
-            ),
-          ),
-        ),
-      ),
-    )
+    let never : skips c.after-self.result ≡ true → ⊥ = λ h. filling_skips b (rw is at h) in
+    record {
+      below = omega (arith, power_more s.places);
+      «open» = omega arith;
+      room = omega arith;
+      bound = omega arith;
+      going = ap going is ∙ going_after Filling b refl;
+      empty = λ h. absurd (never h);
+      zeros = λ h. absurd (never h);
+      begun = λ h z. omega (arith, c.requires.first z);
+    }
 
 pub returns : goal.returns
 returns c =

@@ -10,22 +10,17 @@ invariant_of-self c =
     let s = c.args.self.now in
     let b = ltb 0 (s.left - 1) in
     let is = c.after-self.ensures in
-    let never : fills c.after-self.result ≡ true → ⊥ = λ h. skipping_fills b (rw is at h) in (
-      omega (arith, one-le-pow ((s.places + 1) % 4) 10 (omega arith)),
-      (
-        omega arith,
-        (
-          omega arith,
-          (
-            omega arith,
-            (
-              ap going is ∙ going_after Skipping b refl,
-              ((λ h. c.requires.empty.0), ((λ h. c.requires.empty.1), ((λ h z. absurd (never h)), tt))),
-            ),
-          ),
-        ),
-      ),
-    )
+    let never : fills c.after-self.result ≡ true → ⊥ = λ h. skipping_fills b (rw is at h) in
+    record {
+      below = omega (arith, one-le-pow ((s.places + 1) % 4) 10 (omega arith));
+      «open» = omega arith;
+      room = omega arith;
+      bound = omega arith;
+      going = ap going is ∙ going_after Skipping b refl;
+      empty = λ h. c.requires.empty.0;
+      zeros = λ h. c.requires.empty.1;
+      begun = λ h z. absurd (never h);
+    }
 
 pub returns : goal.returns
 returns c =
