@@ -1,6 +1,6 @@
 -- One call more on a division that serves sinks.
 use Rattle.std.proofs.Common.{◌≡◌, ℕ, List, [], ◌∷◌, ◌++◌, sym, refl, ap, ◌∙◌, subst}
-use Rattle.division.specs.Runs.{Kind, refused, Call, Made, Run, seen, last_rest, last_place}
+use Rattle.division.specs.Runs.{Kind, Call, Made, Run, seen, last_rest, last_place}
 use Rattle.division.specs.Serve.{divisor_of, rest_of, place_of, SoundDivision, Seen, Serves, Steps, Served}
 use Rattle.division.specs.declared.sink.DigitSink.{Ghosts}
 use Rattle.division.specs.declared.state.Division.{Division}

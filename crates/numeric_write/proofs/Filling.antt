@@ -1,5 +1,5 @@
 -- A digit into a group sink.
-use Rattle.std.proofs.Common.{◌≡◌, ℕ, zero, suc, ◌+◌, ◌-◌, ◌*◌, ◌/◌, ◌%◌, ◌^◌, ◌<◌, ◌≤◌, Bool, true, false, cond, ltb, List, [], ◌∷◌, ◌++◌, length, drop, set, sym, refl, ap, ◌∙◌, subst, ⊎_elim, mul_assoc, add-mul, pow-suc, div-add-mod', zero-add, zero-mul, mul-one, add-one, arith, length-append}
+use Rattle.std.proofs.Common.{◌≡◌, ℕ, ◌+◌, ◌-◌, ◌*◌, ◌/◌, ◌%◌, ◌^◌, ◌<◌, ◌≤◌, Bool, true, false, cond, ltb, List, [], ◌∷◌, ◌++◌, length, drop, set, sym, refl, ap, ◌∙◌, ⊎_elim, mul_assoc, add-mul, pow-suc, div-add-mod', zero-add, zero-mul, mul-one, add-one, arith, length-append}
 use Rattle.std.specs.Int.Digits.{number_from_digits}
 use Rattle.std.specs.List.{flat_map}
 use Rattle.std.proofs.lemmas.Int.Digits.{number_push}
@@ -8,7 +8,7 @@ use Rattle.std.proofs.lemmas.Bool.{cases_eq, cases_lt, cond-true, lt-ltb}
 use Rattle.division.specs.Digits.{shifted}
 use Rattle.numeric.specs.Buffer.{placed}
 use Rattle.numeric.specs.Bytes.{word_bytes}
-use Rattle.numeric.specs.Groups.{Proper, words_in}
+use Rattle.numeric.specs.Groups.{words_in}
 use Rattle.numeric.specs.Package.{fours}
 use Rattle.numeric.proofs.Bytes.{words_more, words_back, length_words, bytes_push, placed_pair, placed_append, placed_none}
 use Rattle.numeric.proofs.Proper.{proper_push}

@@ -1,16 +1,15 @@
 -- What a package takes of a fraction, case by case.
-use Rattle.std.proofs.Common.{◌≡◌, ℕ, zero, suc, ◌+◌, ◌-◌, ◌*◌, ◌/◌, ◌%◌, ◌^◌, ◌<◌, ◌≤◌, min, Bool, true, false, [], length, ℤ, pos, negsuc, ◌-ℤ◌, sym, refl, ap, ◌∙◌, subst, ⊎_elim, mul-le-mul_right, mod-eq_of_lt, mul_assoc, div-lt_iff_lt-mul, mul-le-mul_left, one-mul, div-add-mod', le-div_iff_mul-le, mul-one, div-one, add-one, arith, w16, to_z, of_z}
+use Rattle.std.proofs.Common.{◌≡◌, ℕ, zero, suc, ◌+◌, ◌-◌, ◌*◌, ◌/◌, ◌%◌, ◌^◌, ◌<◌, ◌≤◌, Bool, true, false, length, ℤ, pos, negsuc, ◌-ℤ◌, sym, refl, ap, ◌∙◌, subst, ⊎_elim, mul-le-mul_right, mod-eq_of_lt, mul_assoc, div-lt_iff_lt-mul, mul-le-mul_left, one-mul, div-add-mod', le-div_iff_mul-le, mul-one, div-one, add-one, arith, w16, to_z, of_z}
 use native.Mathlib.Nat.{pow-succ', pow-le-pow_right}
 use Rattle.std.proofs.lemmas.Int.{ints}
 use Rattle.std.proofs.lemmas.Bool.{cases_lt}
-use Rattle.division.specs.Expansion.{coming, rest}
+use Rattle.division.specs.Expansion.{coming}
 use Rattle.division.specs.Whole.{Width}
 use Rattle.division.proofs.Decimals.{lesser}
 use Rattle.numeric.specs.Cut.{cut, scale_of}
 use Rattle.numeric.specs.Package.{fours, groups_of, weight_of}
-use Rattle.numeric.proofs.Cut.{whole_scale}
 use Rattle.numeric.proofs.Measure.{before, below_none, below_some, mixed, whole}
-use Rattle.numeric_write.specs.Measure.{Shaped, Sized, Ending, Measured}
+use Rattle.numeric_write.specs.Measure.{Shaped, Sized, Ending}
 use Rattle.numeric_write.specs.declared.shape.Shape.{Shape}
 use Rattle.numeric_write.specs.declared.shape.Shape.TheVariants.{Below, Mixed, Whole}
 

@@ -1,11 +1,11 @@
 -- Which package a fraction is written as, case by case.
-use Rattle.std.proofs.Common.{◌≡◌, ℕ, ◌%◌, ◌≤◌, eqb, List, sym, refl, ap, ◌∙◌, subst, arith}
+use Rattle.std.proofs.Common.{◌≡◌, ℕ, ◌%◌, ◌≤◌, eqb, refl}
 use Rattle.std.proofs.lemmas.Bool.{eq-eqb, ne_eqb, cond-true, cond-false}
 use Rattle.generic.specs.declared.sign.Sign.{Sign}
 use Rattle.division.specs.Expansion.{coming}
 use Rattle.fraction.specs.Meaning.{Meaning, rational, infinity, nan}
-use Rattle.numeric.specs.Cut.{cut, scale_of}
-use Rattle.numeric.specs.Package.{Package, bare, plus_word, nan_word, sign_word, infinity_word, cut_package, package_of, precision_in_force, written}
+use Rattle.numeric.specs.Cut.{scale_of}
+use Rattle.numeric.specs.Package.{bare, plus_word, nan_word, infinity_word, cut_package, precision_in_force, written}
 use Rattle.numeric.specs.Within.{written_within}
 use Rattle.numeric.proofs.Held.{coming_again}
 use Rattle.numeric_write.proofs.Measuring.{scale_within}

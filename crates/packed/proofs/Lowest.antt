@@ -1,5 +1,5 @@
 -- A word of digits by its lowest digit and the digits above it.
-use Rattle.std.proofs.Common.{◌≡◌, ℕ, zero, suc, ◌+◌, ◌-◌, ◌*◌, ◌/◌, ◌%◌, ◌^◌, ◌≤◌, sym, ap, ◌∙◌, arith}
+use Rattle.std.proofs.Common.{◌≡◌, ℕ, zero, suc, ◌+◌, ◌*◌, ◌/◌, ◌%◌, ◌^◌, ◌≤◌, sym, ap, ◌∙◌, arith}
 use lib.Bits.{bit_and, and_block, and_mask}
 use Rattle.packed.specs.Digits.{nibble, AllDigits, decimal}
 use Rattle.packed.proofs.Halves.{nibble_high, decimal_split}

@@ -1,4 +1,4 @@
-use Rattle.std.proofs.Common.{◌-◌, ap, ◌∙◌, arith}
+use Rattle.std.proofs.Common.{ap, ◌∙◌, arith}
 use Rattle.division.proofs.Places.{digit_small}
 use Rattle.division.proofs.Due.{due_whole}
 use Rattle.division.proofs.whole.advance.Goals as goal

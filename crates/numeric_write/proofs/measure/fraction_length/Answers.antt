@@ -1,4 +1,4 @@
-use Rattle.std.proofs.Common.{◌≡◌, ℕ, ◌+◌, ◌-◌, ◌^◌, ◌<◌, min, sym, ap, ◌∙◌, subst, arith}
+use Rattle.std.proofs.Common.{◌≡◌, ℕ, ◌^◌, ◌<◌, min, sym, ap, ◌∙◌, arith}
 use Rattle.division.specs.Expansion.{coming, rest}
 use Rattle.numeric.proofs.Ends.{counted_ends, counted_goes_on}
 use Rattle.numeric_write.proofs.Measuring.{apart}

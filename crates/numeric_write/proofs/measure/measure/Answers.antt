@@ -1,10 +1,6 @@
-use Rattle.std.proofs.Common.{◌≡◌, ℕ, ◌+◌, ◌-◌, ◌/◌, ◌%◌, ◌<◌, ◌≤◌, true, pos, sym, refl, ap, ◌∙◌, subst, arith}
-use Rattle.division.specs.Expansion.{coming}
+use Rattle.std.proofs.Common.{◌≡◌, ℕ, ◌/◌, ◌<◌, sym, ◌∙◌, subst, arith}
 use Rattle.division.specs.Whole.{Width}
-use Rattle.numeric.specs.Cut.{scale_of}
-use Rattle.numeric.specs.Package.{fours}
-use Rattle.numeric_write.specs.Measure.{Sized, Measured}
-use Rattle.numeric_write.specs.declared.shape.Shape.TheVariants.{Mixed}
+use Rattle.numeric_write.specs.Measure.{Sized}
 use Rattle.numeric_write.proofs.Measuring.{apart, below_is, below_rest, above_is, sized_as, scale_from, scale_some, scale_within, width_quotient, sized_quotient, sized_mixed}
 use Rattle.numeric_write.proofs.measure.measure.Goals as goal
 

@@ -1,4 +1,4 @@
-use Rattle.std.proofs.Common.{◌≡◌, ℕ, ◌-◌, ℤ, pos, sym, refl, ap, ◌∙◌, subst, arith}
+use Rattle.std.proofs.Common.{◌≡◌, ℕ, ◌-◌, pos, sym, refl, ap, ◌∙◌, subst, arith}
 use Rattle.numeric.specs.Package.{fours}
 use Rattle.numeric_write.specs.Measure.{Sized}
 use Rattle.numeric_write.specs.declared.shape.Shape.TheVariants.{Whole}

@@ -1,4 +1,4 @@
-use Rattle.std.proofs.Common.{◌≡◌, ℕ, ◌+◌, ◌-◌, min, sym, refl, ap, ◌∙◌, subst, arith}
+use Rattle.std.proofs.Common.{◌≡◌, ℕ, ◌-◌, min, sym, ap, ◌∙◌, arith}
 use Rattle.division.specs.Expansion.{rest, coming}
 use Rattle.numeric_write.proofs.Putting.{lone_zero, lone_rest}
 use Rattle.numeric_write.proofs.put.after_zeros.Goals as goal

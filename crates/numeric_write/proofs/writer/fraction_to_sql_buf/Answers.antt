@@ -1,4 +1,4 @@
-use Rattle.std.proofs.Common.{◌≡◌, ap, ◌∙◌, subst}
+use Rattle.std.proofs.Common.{ap, ◌∙◌, subst}
 use Rattle.fraction.specs.Meaning.{meant}
 use Rattle.numeric.specs.Buffer.{Outcome}
 use Rattle.numeric.specs.Within.{written_within}

@@ -1,11 +1,11 @@
-use Rattle.std.proofs.Common.{◌≡◌, ℕ, ◌+◌, ◌-◌, ◌*◌, List, [], ◌∷◌, length, take, drop, sym, refl, ap, ◌∙◌, subst, arith, w16, SFits, rules}
+use Rattle.std.proofs.Common.{◌≡◌, ℕ, ◌-◌, List, [], ◌∷◌, length, take, drop, ap, ◌∙◌, arith, w16, SFits, rules}
 use borrow.Rule.Slice.PartMut.{put_mid}
 use Rattle.std.specs.List.{flat_map}
 use Rattle.std.proofs.lemmas.Int.{to_z-of_z}
 use Rattle.numeric.specs.Buffer.{placed}
 use Rattle.numeric.specs.Bytes.{word_bytes, signed_word, package_bytes}
 use Rattle.numeric.specs.Cut.{cut}
-use Rattle.numeric.specs.Package.{Package, groups_of, package_of}
+use Rattle.numeric.specs.Package.{Package, package_of}
 use Rattle.numeric.proofs.Bytes.{placed_lent, placed_append}
 use Rattle.numeric_write.proofs.writer.put_measured.Goals as goal
 

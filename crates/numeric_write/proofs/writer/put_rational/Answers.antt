@@ -1,10 +1,10 @@
-use Rattle.std.proofs.Common.{◌≡◌, ℕ, ◌%◌, ◌<◌, ◌≤◌, sym, refl, ap, ◌∙◌, subst, arith}
+use Rattle.std.proofs.Common.{◌≡◌, ℕ, ◌%◌, sym, refl, ap, ◌∙◌, subst, arith}
 use Rattle.division.specs.Expansion.{coming}
 use Rattle.division.specs.Whole.{Width}
 use Rattle.fraction.specs.Meaning.{rational}
 use Rattle.numeric.specs.Buffer.{Outcome}
-use Rattle.numeric.specs.Cut.{cut, scale_of}
-use Rattle.numeric.specs.Package.{Package, package_of, sign_word}
+use Rattle.numeric.specs.Cut.{cut}
+use Rattle.numeric.specs.Package.{package_of, sign_word}
 use Rattle.numeric.specs.Within.{written_within}
 use Rattle.numeric_write.specs.Measure.{Sized}
 use Rattle.numeric_write.proofs.Measuring.{apart}

@@ -1,4 +1,4 @@
-use Rattle.std.proofs.Common.{◌≡◌, ℕ, ◌*◌, ◌^◌, List, sym, refl, ap, ◌∙◌, subst, arith}
+use Rattle.std.proofs.Common.{◌≡◌, ℕ, ◌*◌, ◌^◌, List, sym, ap, ◌∙◌, subst, arith}
 use Rattle.numeric_write.specs.Laid.{Finished, held, filler}
 use Rattle.numeric_write.proofs.Filling.{finished_none, held_filled}
 use Rattle.numeric_write.proofs.group_sink.GroupSink.finish.Goals as goal

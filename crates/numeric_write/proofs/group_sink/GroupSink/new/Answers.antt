@@ -1,6 +1,5 @@
-use Rattle.std.proofs.Common.{◌≡◌, ◌+◌, ◌*◌, ◌/◌, ◌%◌, ◌^◌, ◌<◌, ◌≤◌, true, ltb, length, refl, ap, ◌∙◌, arith}
+use Rattle.std.proofs.Common.{◌≡◌, true, ltb, length, refl, ap, ◌∙◌, arith}
 use native.Mathlib.Nat.{one-le-pow}
-use Rattle.numeric.specs.Package.{fours}
 use Rattle.numeric_write.specs.States.{going, fills}
 use Rattle.numeric_write.specs.declared.group_state.GroupState.TheVariants.{Skipping}
 use Rattle.numeric_write.proofs.Filling.{going_after, skipping_fills, held_none, first_some, first_open, first_room}

@@ -1,4 +1,4 @@
-use Rattle.std.proofs.Common.{◌≡◌, ◌+◌, ◌-◌, ◌*◌, ◌^◌, ◌<◌, true, ltb, refl, ap, ◌∙◌, arith}
+use Rattle.std.proofs.Common.{◌≡◌, ◌-◌, true, ltb, refl, ap, ◌∙◌, arith}
 use Rattle.division.specs.Digits.{shifted}
 use Rattle.numeric_write.specs.Laid.{held}
 use Rattle.numeric_write.specs.States.{going, skips}

@@ -1,4 +1,4 @@
-use Rattle.std.proofs.Common.{◌≡◌, ◌+◌, ◌-◌, ◌*◌, ◌%◌, ◌^◌, ◌<◌, true, ltb, refl, ap, ◌∙◌, arith}
+use Rattle.std.proofs.Common.{◌≡◌, ◌+◌, ◌-◌, ◌%◌, true, ltb, refl, ap, ◌∙◌, arith}
 use native.Mathlib.Nat.{one-le-pow}
 use Rattle.numeric_write.specs.States.{going, fills}
 use Rattle.numeric_write.specs.declared.group_state.GroupState.TheVariants.{Skipping}
