@@ -3,7 +3,7 @@ use Rattle.std.proofs.Common.{◌≡◌, ℕ, zero, suc, ◌+◌, ◌-◌, ◌*�
 use native.Mathlib.Nat.{div-div-eq-div-mul, add-mul-mod_self_right}
 use lib.Bits.{bit_and, bit_xor, xor_shr, xor_add_and, and_zero_r}
 use Rattle.packed.specs.Digits.{AllDigits, decimal}
-use Rattle.packed.specs.Decimals.{decimal_none}
+use Rattle.packed.proofs.Decimals.{decimal_none}
 use Rattle.packed.proofs.Lowest.{digits_cons, digits_head, digits_tail, decimal_cons, lowest_bits, pick_lowest}
 
 -- the lowest bit without carries

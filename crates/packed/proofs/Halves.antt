@@ -3,7 +3,7 @@ use Rattle.std.proofs.Common.{◌≡◌, ℕ, zero, suc, ◌+◌, ◌-◌, ◌*�
 use Rattle.std.proofs.lemmas.Nat.{pow-add, shr-shr, div-mul-add, mul-le}
 use Rattle.std.proofs.lemmas.Bool.{cases_lt}
 use Rattle.packed.specs.Digits.{nibble, decimal, Writes}
-use Rattle.packed.specs.Decimals.{decimal_same, nibble_low}
+use Rattle.packed.proofs.Decimals.{decimal_same, nibble_low}
 
 -- a place above place j is a place of what stands above j
 pub nibble_high : (j w i : ℕ) → nibble (w / 2 ^ (4 * j)) i ≡ nibble w (j + i)

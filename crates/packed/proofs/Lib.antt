@@ -1,4 +1,5 @@
 pub mod Carries
+pub mod Decimals
 pub mod Flags
 pub mod Halves
 pub mod Lowest

@@ -5,7 +5,8 @@ use Rattle.std.proofs.lemmas.Nat.{div-mul-add, mod-mul-add}
 use Rattle.std.proofs.lemmas.Bool.{cases_lt, eqb-true, eq-eqb}
 use Rattle.packed.specs.Digits.{AllDigits, decimal}
 use Rattle.packed.proofs.Carries.{changed, whole, whole_sixteen, Added, added, Subtracted, subtracted}
-use Rattle.packed.specs.Decimals.{decimal_lt, decimal_order}
+use Rattle.packed.specs.Decimals.{decimal_lt}
+use Rattle.packed.proofs.Decimals.{decimal_order}
 use Rattle.packed.proofs.Lowest.{digits_cons, decimal_cons}
 
 -- fifteen digits and a highest

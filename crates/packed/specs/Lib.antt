@@ -1,3 +1,3 @@
+pub mod Decimals
 pub mod Digits
 pub mod Faults
-pub mod Decimals

@@ -19,7 +19,7 @@ impl CountingNumber for PackedDecimal {
 
     ghost within = { λ x. omega (arith, decimal_lt 16 x.word x.digits) };
 
-    ghost widest = { first_of (Prim.search rules, Prim.grind (arith, Self.row.coded.inj)) };
+    ghost widest = { Prim.search rules };
 
     fn zero() -> PackedDecimal {
         PackedDecimal::pack(0)
@@ -55,7 +55,7 @@ impl CountingNumber for PackedDecimal {
 }
 
 impl GenericInteger for PackedDecimal {
-    ghost words = { first_of (Prim.search rules, Prim.grind (arith, Self.row.coded.inj)) };
+    ghost words = { Prim.search rules };
 
     fn ten() -> PackedDecimal {
         PackedDecimal::pack(10)

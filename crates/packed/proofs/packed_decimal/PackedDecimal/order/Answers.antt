@@ -1,5 +1,5 @@
 use Rattle.std.proofs.Common.{arith, rules}
-use Rattle.packed.specs.Decimals.{decimal_ranked}
+use Rattle.packed.proofs.Decimals.{decimal_ranked}
 use Rattle.packed.proofs.packed_decimal.PackedDecimal.order.Goals as goal
 
 pub returns : goal.returns
