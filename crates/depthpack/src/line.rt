@@ -9,8 +9,8 @@ pub const LONGEST_LINE: usize = 16_421;
 
 // Puts a verdict's line into `page` from `at` on, by way of `scratch`, and answers where the line ends.
 pub fn put_line(page: &mut [u8], at: usize, verdict: Verdict, scratch: &mut [u8]) -> usize
-    requires at_in_bounds { at + 16_421 ≤ length page.old }
-    requires in_bounds { 8_210 ≤ length scratch.old }
+    requires page { at + 16_421 ≤ length page.old }
+    requires scratch { 8_210 ≤ length scratch.old }
     ensures { result ≤ at + 16_421 }
 {
     let end = match verdict {

@@ -32,9 +32,9 @@ A line is
   short record   the input ends inside the record.
 
 At the end standard error tells how many records were packed, refused, bad and short.
-The status is 0, or 1 with a message if the input cannot be read or the output cannot be written,
-if an option is unknown or if more than one file is named. A pipe that its reader has closed ends
-the program by SIGPIPE, without a message, unless that signal is ignored.
+The status is 0, or 1 with a message if the input cannot be read or the output cannot be written
+(as into a pipe that its reader has closed), if an option is unknown or if more than one file is
+named.
 ";
 
 fn main(rt: HostRuntime) -> ExitCode {

@@ -83,8 +83,8 @@ fn put_word(out: &mut [u8], at: usize, word: u16)
 
 // n over d, neither of them 0.
 fn put_rational(out: &mut [u8], sign: Sign, n: u64, d: u64, precision: u16) -> usize
-    requires in_bounds { 8_210 ≤ length out.old }
-    requires d_nonzero { 0 < d }
+    requires room { 8_210 ≤ length out.old }
+    requires denominator { 0 < d }
     ensures { result ≤ 8_210 }
 {
     let whole = n / d;
@@ -180,10 +180,10 @@ struct Fraction {
 
 // Puts the groups of numerator over d, a fraction below 1, behind those of the whole part: at most `limit` digits.
 fn put_fraction(out: &mut [u8], whole_groups: u16, numerator: u64, d: u64, limit: u16) -> Fraction
-    requires in_bounds { 8_210 ≤ length out.old }
-    requires numerator_lt_d { numerator < d }
-    requires whole_groups_bound { whole_groups ≤ 5 }
-    requires limit_bound { limit ≤ 16_383 }
+    requires room { 8_210 ≤ length out.old }
+    requires below_one { numerator < d }
+    requires whole_groups { whole_groups ≤ 5 }
+    requires limit { limit ≤ 16_383 }
     ensures { result.groups ≤ 4_096 }
 {
     let mut rest = numerator;

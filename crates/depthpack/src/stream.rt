@@ -90,8 +90,8 @@ fn pack_chunk<W: Write>(
     tally: &mut Tally,
     output: &mut W,
 ) -> Result<(), Failure>
-    requires in_bounds { 8_210 ≤ length scratch.old }
-    requires in_bounds_2 { 16_421 ≤ length page.old }
+    requires scratch { 8_210 ≤ length scratch.old }
+    requires page { 16_421 ≤ length page.old }
 {
     let mut used = 0;
     for record in chunk.chunks(RECORD_BYTES) {
