@@ -11,7 +11,7 @@ use Rattle.division.proofs.Decimals.{below}
 
 -- From the rest m at the place p on: no call is refused, the sinks took the next digits, each once and in order, and the
 -- state handed back last is the one after them.
-pub record Goes_on (d m p : ℕ) (cs : List Call) : Type 0 where
+pub record GoesOn (d m p : ℕ) (cs : List Call) : Type 0 where
   pub kinds : EachGoes cs
   pub shared : Shared (digits d m p (total cs)) cs
   pub state : last_rest m cs ≡ rest d m p (total cs)
@@ -21,7 +21,7 @@ pub record Goes_on (d m p : ℕ) (cs : List Call) : Type 0 where
 -- remainder is not below the divisor, 0 among the divisors, stands still.
 abbrev pub OneExpansion : Type 0
 OneExpansion =
-    (d m p : ℕ) (cs : List Call) → Run d m p cs → (m < 10 ^ p * d → Goes_on d m p cs) × (p ≡ 0 → d ≤ m → StandsStill d m cs)
+    (d m p : ℕ) (cs : List Call) → Run d m p cs → (m < 10 ^ p * d → GoesOn d m p cs) × (p ≡ 0 → d ≤ m → StandsStill d m cs)
 
 -- The place after k digits, by recursion.
 abbrev place : ℕ → ℕ → ℕ
@@ -75,7 +75,7 @@ one_made whole d m p c h made = (tt, one_went d m p (min c.left p) c made.1)
 one_made fraction d m p c h made = (tt, rw made.0 (one_went d m 0 (coming d m c.left) c made.2))
 one_made (refused f) d m p c h made = absurd (no_cause f d m p made.0 h made.1)
 
-goes_on : (d m p : ℕ) (cs : List Call) → Run d m p cs → m < 10 ^ p * d → Goes_on d m p cs
+goes_on : (d m p : ℕ) (cs : List Call) → Run d m p cs → m < 10 ^ p * d → GoesOn d m p cs
 goes_on d m p [] run h = record { kinds = tt; shared = refl; state = refl; place = omega arith }
 goes_on d m p (c ∷ cs) run h =
     let k = c.taken' - c.taken in
