@@ -87,7 +87,7 @@ fn refused(rt: HostRuntime) -> Result<(), Fail> {
         Err(fault) => {
             assert_eq!(rt; fault, DivisionFault::ZeroDivisor);
             Ok(())
-        },
+        }
     }
 }
 
