@@ -5,5 +5,4 @@ pub mod Faithful
 pub mod Faults
 pub mod Groups
 pub mod Package
-pub mod Within
 pub mod Worked

@@ -7,7 +7,6 @@ ghost use Rattle.numeric.specs.Buffer.{Outcome};
 ghost use Rattle.numeric.specs.Cut.{cut};
 ghost use Rattle.numeric.specs.Faithful.{WritingFaithful};
 ghost use Rattle.numeric.specs.Package.{bare, package_of, precision_in_force, sign_word, infinity_word, written};
-ghost use Rattle.numeric.specs.Within.{written_within};
 ghost use Rattle.numeric_write.specs.Measure.{Sized};
 
 use crate::header::{Header, put_header};
@@ -65,7 +64,7 @@ fn write_within<T: GenericInteger + CountingNumber>(
 ) -> Result<(), PackageFault>
     requires sound { Sound (meant T.number source.now) }
     requires precision { (0 < precision) × (precision ≤ 16383) }
-    ensures { Outcome (written_within (meant T.number source.now) precision) buffer.old used.old buffer.new used.new result }
+    ensures { Outcome (written (meant T.number source.now) precision) buffer.old used.old buffer.new used.new result }
 {
     match *source {
         GenericFraction::Rational(sign, ratio) => {
@@ -109,7 +108,7 @@ fn put_rational<T: GenericInteger + CountingNumber>(
 ) -> Result<(), PackageFault>
     requires d { 0 < T.number d }
     requires precision { (0 < precision) × (precision ≤ 16383) }
-    ensures { Outcome (written_within (rational sign (T.number n) (T.number d)) precision) buffer.old used.old buffer.new used.new result }
+    ensures { Outcome (written (rational sign (T.number n) (T.number d)) precision) buffer.old used.old buffer.new used.new result }
 {
     if n.is_zero() {
         return put_bare(buffer, used, PG_POS);

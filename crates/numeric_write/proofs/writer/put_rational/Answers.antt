@@ -4,8 +4,7 @@ use Rattle.division.specs.Whole.{Width}
 use Rattle.fraction.specs.Meaning.{rational}
 use Rattle.numeric.specs.Buffer.{Outcome}
 use Rattle.numeric.specs.Cut.{cut}
-use Rattle.numeric.specs.Package.{package_of, sign_word}
-use Rattle.numeric.specs.Within.{written_within}
+use Rattle.numeric.specs.Package.{package_of, sign_word, written}
 use Rattle.numeric_write.specs.Measure.{Sized}
 use Rattle.numeric_write.proofs.Measuring.{apart}
 use Rattle.numeric_write.proofs.Writing.{written_zero, written_some, scale_bound, scale_again}
@@ -53,10 +52,10 @@ returns g c =
     let d' : ℕ = g.T.CountingNumber.number c.in-Ok.state.divisor in
     let s : ℕ = c.measure-extent.result.scale in
     let some : n ≡ 0 → ⊥ = λ z. apart c.is_zero.result (c.is_zero.ensures.1 z) c.if-is_zero.false in
-    let same : package_of c.sign_word_of.result (cut n' d' s) s ≡ written_within (rational c.args.sign n d) p =
+    let same : package_of c.sign_word_of.result (cut n' d' s) s ≡ written (rational c.args.sign n d) p =
     ap (λ k. package_of k (cut n' d' s) s) c.sign_word_of.ensures
     ∙ ap (λ x. package_of (sign_word c.args.sign) (cut x d' s) s) (ap g.T.CountingNumber.number begun.1)
     ∙ ap (λ x. package_of (sign_word c.args.sign) (cut n x s) s) (ap g.T.CountingNumber.number begun.2)
     ∙ ap (λ x. package_of (sign_word c.args.sign) (cut n d x) x) c.measure-extent.ensures.scale_is
-    ∙ sym (written_some c.args.sign n d p some) in
+    ∙ sym (written_some c.args.sign n d p c.requires.precision.0 c.requires.precision.1 some) in
     subst (λ q. Outcome q c.args.buffer.now c.args.used.now c.put_measured.new.buffer c.put_measured.new.used c.put_measured.result) same c.put_measured.ensures
