@@ -3,7 +3,7 @@ ghost use Rattle.std.specs.Prelude.{◌≡◌, ◌%◌, ◌<◌, ◌≤◌};
 ghost use Rattle.division.specs.Expansion.{coming};
 ghost use Rattle.division.specs.Whole.{Begun};
 ghost use Rattle.fraction.specs.Meaning.{meant, rational, Sound};
-ghost use Rattle.numeric.specs.Buffer.{Outcome};
+ghost use Rattle.numeric.specs.Buffer.{Outcome, free};
 ghost use Rattle.numeric.specs.Cut.{cut};
 ghost use Rattle.numeric.specs.Faithful.{WritingFaithful};
 ghost use Rattle.numeric.specs.Package.{bare, package_of, precision_in_force, sign_word, infinity_word, written};
@@ -75,12 +75,19 @@ fn write_within<T: GenericInteger + CountingNumber>(
     }
 }
 
+// How many bytes are free behind the used ones.
+fn free_bytes(buffer: &[u8], used: usize) -> usize
+    ensures { result ≡ free buffer.now used }
+{
+    buffer.len().saturating_sub(used)
+}
+
 // A package of no group, with a sign word among zeros.
 fn put_bare(buffer: &mut [u8], used: &mut usize, sign: u16) -> Result<(), PackageFault>
     ensures { Outcome (bare sign) buffer.old used.old buffer.new used.new result }
 {
     let start = *used;
-    if buffer.len().saturating_sub(start) < 8 {
+    if free_bytes(buffer, start) < 8 {
         return Err(PackageFault::NoSpace(8));
     }
     let part = &mut buffer[start..];
@@ -155,7 +162,7 @@ fn put_measured<T: GenericInteger + CountingNumber>(
 {
     let start = *used;
     let needed = 8 + 2 * usize::from(extent.groups);
-    if buffer.len().saturating_sub(start) < needed {
+    if free_bytes(buffer, start) < needed {
         return Err(PackageFault::NoSpace(needed));
     }
     let part = &mut buffer[start..];
