@@ -3,3 +3,4 @@
 
 pub mod fault;
 pub mod generic_fraction;
+pub mod ratio;

@@ -1,25 +1,24 @@
 // Fractions that are reduced, and the values that are no number.
 use fraction::generic_fraction::GenericFraction;
-use generic::counting::CountingNumber;
 use generic::integer::GenericInteger;
 use generic::sign::Sign;
 use packed::packed_decimal::PackedDecimal;
 use std::process::Abort;
 
 // The numerator and the denominator.
-fn parts<T: GenericInteger + CountingNumber>(f: GenericFraction<T>) -> Option<(u64, u64)> {
+fn parts<T: GenericInteger>(f: GenericFraction<T>) -> Option<(u64, u64)> {
     Some((f.numer()?.to_u64(), f.denom()?.to_u64()))
 }
 
-fn made<T: GenericInteger + CountingNumber>(n: u16, d: u16) -> GenericFraction<T> {
+fn made<T: GenericInteger>(n: u16, d: u16) -> GenericFraction<T> {
     GenericFraction::new(T::from_u16(n), T::from_u16(d))
 }
 
-fn made_neg<T: GenericInteger + CountingNumber>(n: u16, d: u16) -> GenericFraction<T> {
+fn made_neg<T: GenericInteger>(n: u16, d: u16) -> GenericFraction<T> {
     GenericFraction::new_neg(T::from_u16(n), T::from_u16(d))
 }
 
-fn reduced<T: GenericInteger + CountingNumber>(rt: &impl Abort) {
+fn reduced<T: GenericInteger>(rt: &impl Abort) {
     assert_eq!(rt; parts(made::<T>(2, 4)), Some((1, 2)));
     assert_eq!(rt; parts(made::<T>(3, 4)), Some((3, 4)));
     assert_eq!(rt; parts(made::<T>(65520, 1176)), Some((390, 7)));
@@ -29,7 +28,7 @@ fn reduced<T: GenericInteger + CountingNumber>(rt: &impl Abort) {
     assert_eq!(rt; made_neg::<T>(6, 3).sign(), Some(Sign::Minus));
 }
 
-fn zeros<T: GenericInteger + CountingNumber>(rt: &impl Abort) {
+fn zeros<T: GenericInteger>(rt: &impl Abort) {
     assert_eq!(rt; parts(made_neg::<T>(0, 7)), Some((0, 1)));
     assert_eq!(rt; made_neg::<T>(0, 7).sign(), Some(Sign::Minus));
     assert!(rt; made_neg::<T>(0, 7).is_zero());
@@ -38,7 +37,7 @@ fn zeros<T: GenericInteger + CountingNumber>(rt: &impl Abort) {
     assert!(rt; !made::<T>(1, 7).is_zero());
 }
 
-fn over_nothing<T: GenericInteger + CountingNumber>(rt: &impl Abort) {
+fn over_nothing<T: GenericInteger>(rt: &impl Abort) {
     assert!(rt; made::<T>(5, 0).is_infinite());
     assert_eq!(rt; made::<T>(5, 0).sign(), Some(Sign::Plus));
     assert_eq!(rt; made_neg::<T>(5, 0).sign(), Some(Sign::Minus));

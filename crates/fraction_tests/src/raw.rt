@@ -1,14 +1,13 @@
 // Fractions that stay as they are given.
 use fraction::fault::FractionFault;
 use fraction::generic_fraction::GenericFraction;
-use generic::counting::CountingNumber;
 use generic::integer::GenericInteger;
 use generic::sign::Sign;
 use packed::packed_decimal::PackedDecimal;
 use std::process::Abort;
 
 // The sign, the numerator and the denominator, 0 where there is none.
-fn read<T: GenericInteger + CountingNumber>(
+fn read<T: GenericInteger>(
     made: Result<GenericFraction<T>, FractionFault>,
 ) -> Result<(Option<Sign>, u64, u64), FractionFault> {
     let f = made?;
@@ -17,7 +16,7 @@ fn read<T: GenericInteger + CountingNumber>(
     Ok((f.sign(), numer, denom))
 }
 
-fn stays<T: GenericInteger + CountingNumber>(rt: &impl Abort) {
+fn stays<T: GenericInteger>(rt: &impl Abort) {
     let two = T::from_u16(2);
     let four = T::from_u16(4);
     assert_eq!(rt;
@@ -30,7 +29,7 @@ fn stays<T: GenericInteger + CountingNumber>(rt: &impl Abort) {
     );
 }
 
-fn refused<T: GenericInteger + CountingNumber>(rt: &impl Abort) {
+fn refused<T: GenericInteger>(rt: &impl Abort) {
     assert_eq!(rt;
         read(GenericFraction::new_raw(T::one(), T::zero())),
         Err(FractionFault::ZeroDenominator)

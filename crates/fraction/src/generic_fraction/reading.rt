@@ -1,87 +1,61 @@
 // What is read from a fraction.
 ghost use Rattle.std.specs.Prelude.{◌≡◌, Decides};
-ghost use Rattle.fraction.specs.Meaning.{nan, meant, numerator, denominator, signed, told, Zero, Infinite};
+ghost use Rattle.std.specs.Option.{option_map};
+ghost use Rattle.fraction.specs.Meaning.{nan, meant, numerator, denominator, signed, Zero, Infinite};
 
-use crate::generic_fraction::{GenericFraction, Ratio};
-use generic::counting::CountingNumber;
+use crate::generic_fraction::GenericFraction;
 use generic::integer::GenericInteger;
 use generic::sign::Sign;
 
-impl<T: Copy> Ratio<T> {
-    pub fn numer(&self) -> T
-        ensures { result ≡ self.now.numer }
-    {
-        self.numer
-    }
-
-    pub fn denom(&self) -> T
-        ensures { result ≡ self.now.denom }
-    {
-        self.denom
-    }
-}
-
-impl<T: GenericInteger + CountingNumber> GenericFraction<T> {
+impl<T: GenericInteger> GenericFraction<T> {
     // None for an infinity and for NaN.
     pub fn numer(&self) -> Option<T>
-        ensures { told T.number result ≡ numerator (meant T.number self.now) }
+        ensures { option_map T.number result ≡ numerator (meant self.now) }
     {
         match *self {
-            GenericFraction::Rational(_, ratio) => Some(ratio.numer),
-            GenericFraction::Infinity(_) => None,
-            GenericFraction::NaN => None,
+            GenericFraction::Rational(_, ratio) => Some(ratio.numer()),
+            _ => None,
         }
     }
 
     // None for an infinity and for NaN.
     pub fn denom(&self) -> Option<T>
-        ensures { told T.number result ≡ denominator (meant T.number self.now) }
+        ensures { option_map T.number result ≡ denominator (meant self.now) }
     {
         match *self {
-            GenericFraction::Rational(_, ratio) => Some(ratio.denom),
-            GenericFraction::Infinity(_) => None,
-            GenericFraction::NaN => None,
+            GenericFraction::Rational(_, ratio) => Some(ratio.denom()),
+            _ => None,
         }
     }
 
     // None for NaN.
     pub fn sign(&self) -> Option<Sign>
-        ensures { result ≡ signed (meant T.number self.now) }
+        ensures { result ≡ signed (meant self.now) }
     {
         match *self {
-            GenericFraction::Rational(sign, _) => Some(sign),
-            GenericFraction::Infinity(sign) => Some(sign),
+            GenericFraction::Rational(sign, _) | GenericFraction::Infinity(sign) => Some(sign),
             GenericFraction::NaN => None,
         }
     }
 
     pub fn is_zero(&self) -> bool
-        ensures { Decides result (Zero (meant T.number self.now)) }
+        ensures { Decides result (Zero (meant self.now)) }
     {
         match *self {
-            GenericFraction::Rational(_, ratio) => ratio.numer.is_zero(),
-            GenericFraction::Infinity(_) => false,
-            GenericFraction::NaN => false,
+            GenericFraction::Rational(_, ratio) => ratio.numer().is_zero(),
+            _ => false,
         }
     }
 
     pub fn is_nan(&self) -> bool
-        ensures { Decides result (meant T.number self.now ≡ nan) }
+        ensures { Decides result (meant self.now ≡ nan) }
     {
-        match *self {
-            GenericFraction::Rational(_, _) => false,
-            GenericFraction::Infinity(_) => false,
-            GenericFraction::NaN => true,
-        }
+        matches!(self, GenericFraction::NaN)
     }
 
     pub fn is_infinite(&self) -> bool
-        ensures { Decides result (Infinite (meant T.number self.now)) }
+        ensures { Decides result (Infinite (meant self.now)) }
     {
-        match *self {
-            GenericFraction::Rational(_, _) => false,
-            GenericFraction::Infinity(_) => true,
-            GenericFraction::NaN => false,
-        }
+        matches!(self, GenericFraction::Infinity(_))
     }
 }
