@@ -5,4 +5,5 @@ pub mod Faithful
 pub mod Faults
 pub mod Groups
 pub mod Package
+pub mod Words
 pub mod Worked

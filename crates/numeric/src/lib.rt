@@ -4,3 +4,4 @@
 pub mod fault;
 pub mod law;
 pub mod layout;
+pub mod sign_word;
