@@ -18,18 +18,6 @@ length_package q = omega (arith, length_words q.groups)
 pub bytes_push : (ws : List ℕ) (w : ℕ) → flat_map word_bytes (ws ++ (w ∷ [])) ≡ flat_map word_bytes ws ++ word_bytes w
 bytes_push ws w = sym (flat_map_more word_bytes [] ws w)
 
--- two writes side by side
-pub placed_pair : (xs : List ℕ) (at a b : ℕ) → at + 2 ≤ length xs → set (set xs at a) (at + 1) b ≡ placed xs at (a ∷ b ∷ [])
-placed_pair [] at a b h = absurd (omega arith)
-placed_pair (x ∷ []) at a b h = absurd (omega arith)
-placed_pair (x ∷ y ∷ r) zero a b h = refl
-placed_pair (x ∷ y ∷ r) (suc at) a b h =
-    let p : suc at + 1 ≡ suc (at + 1) = omega arith in
-    let q : suc at + 2 ≡ suc (at + 2) = omega arith in
-    ap (λ k. set (set (x ∷ y ∷ r) (suc at) a) k b) p
-    ∙ ap (λ l. x ∷ l) (placed_pair (y ∷ r) at a b (omega arith))
-    ∙ sym (ap (λ k. take (suc at) (x ∷ y ∷ r) ++ ((a ∷ b ∷ []) ++ drop k (x ∷ y ∷ r))) q)
-
 -- bytes put behind bytes that were put
 pub placed_append : (xs : List ℕ) (u : ℕ) (xa bs : List ℕ) → u ≤ length xs → placed (placed xs u xa) (u + length xa) bs ≡ placed xs u (xa ++ bs)
 placed_append xs u xa bs h =
@@ -70,17 +58,17 @@ placed_lent xs ys u bs e =
 
 -- WORDS IN BYTES
 
--- a word written behind k words
-pub words_more : (k : ℕ) (xs : List ℕ) (a b : ℕ) → 2 * k + 2 ≤ length xs → words_in (suc k) (set (set xs (2 * k) a) (2 * k + 1) b) ≡ words_in k xs ++ ((a * 256 + b) ∷ [])
-words_more k [] a b h = absurd (omega arith)
-words_more k (x ∷ []) a b h = absurd (omega arith)
-words_more zero (x ∷ y ∷ r) a b h = refl
-words_more (suc k) (x ∷ y ∷ r) a b h =
+-- a word put behind k words
+pub words_more : (k : ℕ) (xs : List ℕ) (w : ℕ) → 2 * k + 2 ≤ length xs → words_in (suc k) (placed xs (2 * k) (word_bytes w)) ≡ words_in k xs ++ (w ∷ [])
+words_more k [] w h = absurd (omega arith)
+words_more k (x ∷ []) w h = absurd (omega arith)
+words_more zero (x ∷ y ∷ r) w h = ap (λ v. v ∷ []) (div-add-mod' w 256)
+words_more (suc k) (x ∷ y ∷ r) w h =
     let p : 2 * suc k ≡ suc (suc (2 * k)) = omega arith in
-    let q : 2 * suc k + 1 ≡ suc (suc (2 * k + 1)) = omega arith in
-    ap (λ j. words_in (suc (suc k)) (set (set (x ∷ y ∷ r) j a) (2 * suc k + 1) b)) p
-    ∙ ap (λ j. words_in (suc (suc k)) (set (set (x ∷ y ∷ r) (suc (suc (2 * k))) a) j b)) q
-    ∙ ap (λ l. (x * 256 + y) ∷ l) (words_more k r a b (omega arith))
+    let q : suc (suc (2 * k)) + 2 ≡ suc (suc (2 * k + 2)) = omega arith in
+    ap (λ j. words_in (suc (suc k)) (placed (x ∷ y ∷ r) j (word_bytes w))) p
+    ∙ ap (λ j. words_in (suc (suc k)) (take (suc (suc (2 * k))) (x ∷ y ∷ r) ++ (word_bytes w ++ drop j (x ∷ y ∷ r)))) q
+    ∙ ap (λ l. (x * 256 + y) ∷ l) (words_more k r w (omega arith))
 
 -- the words of bytes that words were written into
 pub words_back : (ws rest : List ℕ) → words_in (length ws) (flat_map word_bytes ws ++ rest) ≡ ws

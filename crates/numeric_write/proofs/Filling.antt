@@ -10,7 +10,7 @@ use Rattle.numeric.specs.Buffer.{placed}
 use Rattle.numeric.specs.Bytes.{word_bytes}
 use Rattle.numeric.specs.Groups.{words_in}
 use Rattle.numeric.specs.Package.{fours}
-use Rattle.numeric.proofs.Bytes.{words_more, words_back, length_words, bytes_push, placed_pair, placed_append, placed_none}
+use Rattle.numeric.proofs.Bytes.{words_more, words_back, length_words, bytes_push, placed_append, placed_none}
 use Rattle.numeric.proofs.Proper.{proper_push}
 use Rattle.numeric_write.specs.Laid.{Laid, Finished, held, filler}
 use Rattle.numeric_write.specs.States.{going, skips, fills}
@@ -50,14 +50,14 @@ held_none bytes k places group z g =
 
 -- the group ends
 pub held_close : (bytes : List ℕ) (k places group digit : ℕ) → places ≡ 3 → 2 * k + 2 ≤ length bytes
-    → held (set (set bytes (2 * k) ((group * 10 + digit) / 256)) (2 * k + 1) ((group * 10 + digit) % 256)) (k + 1) 0 0 ≡ shifted (held bytes k places group) digit
+    → held (placed bytes (2 * k) (word_bytes (group * 10 + digit))) (k + 1) 0 0 ≡ shifted (held bytes k places group) digit
 held_close bytes k places group digit three room =
     let g : ℕ = number_from_digits 10000 (words_in k bytes) in
     let w : ℕ = group * 10 + digit in
-    let after : List ℕ = set (set bytes (2 * k) (w / 256)) (2 * k + 1) (w % 256) in
+    let after : List ℕ = placed bytes (2 * k) (word_bytes w) in
     let e : number_from_digits 10000 (words_in (k + 1) after) ≡ g * 10000 + w =
     ap (λ j. number_from_digits 10000 (words_in j after)) (add-one k)
-    ∙ ap (number_from_digits 10000) (words_more k bytes (w / 256) (w % 256) room ∙ ap (λ x. words_in k bytes ++ (x ∷ [])) (div-add-mod' w 256))
+    ∙ ap (number_from_digits 10000) (words_more k bytes w room)
     ∙ number_push 10000 (words_in k bytes) w in
     omega (arith, ap (λ x. x * 10 ^ 0) e, mul-one (g * 10000 + w), ap (λ x. g * 10 ^ x) three)
 
@@ -65,7 +65,7 @@ held_close bytes k places group digit three room =
 
 -- one more group behind those that are laid
 pub laid_more : (before after : List ℕ) (k g : ℕ) → Laid before after k → 2 * k + 2 ≤ length after → g < 10000 → (k ≡ 0 → 0 < g)
-    → Laid before (set (set after (2 * k) (g / 256)) (2 * k + 1) (g % 256)) (k + 1)
+    → Laid before (placed after (2 * k) (word_bytes g)) (k + 1)
 laid_more before after k g l room small first =
     let gs : List ℕ = l.groups in
     let bs : List ℕ = flat_map word_bytes gs in
@@ -75,8 +75,7 @@ laid_more before after k g l room small first =
       proper = proper_push gs g l.proper small (λ z. first (sym l.long ∙ z));
       long = length-append gs (g ∷ []) ∙ ap (λ x. x + 1) l.long;
       bytes =
-          placed_pair after (2 * k) (g / 256) (g % 256) room
-          ∙ ap (λ x. placed after x (word_bytes g)) (sym far)
+          ap (λ x. placed after x (word_bytes g)) (sym far)
           ∙ ap (λ x. placed x (length bs) (word_bytes g)) l.bytes
           ∙ ap (λ x. placed (placed before 0 bs) x (word_bytes g)) (sym (zero-add (length bs)))
           ∙ placed_append before 0 bs (word_bytes g) (omega arith)
@@ -113,7 +112,7 @@ finished_skip before after k group l z g =
 
 -- the group is put
 pub finished_put : (before after : List ℕ) (k group : ℕ) → Laid before after k → 2 * k + 2 ≤ length after → group < 10000 → (k ≡ 0 → 0 < group)
-    → Finished before (set (set after (2 * k) (group / 256)) (2 * k + 1) (group % 256)) (held after k 4 group)
+    → Finished before (placed after (2 * k) (word_bytes group)) (held after k 4 group)
 unfolding laid_more
 finished_put before after k group l room small first =
     record {

@@ -24,10 +24,9 @@ pub(crate) fn put_header(part: &mut [u8], header: Header)
 }
 
 // Puts a word, the most significant byte first.
-fn put_word(part: &mut [u8], at: usize, word: u16)
+pub(crate) fn put_word(part: &mut [u8], at: usize, word: u16)
     requires { at + 2 ≤ length part.old }
     ensures { part.new ≡ placed part.old at (word_bytes word) }
 {
-    part[at] = (word / 256) as u8;
-    part[at + 1] = (word % 256) as u8;
+    part[at..at + 2].copy_from_slice(&word.to_be_bytes());
 }

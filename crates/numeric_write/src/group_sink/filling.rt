@@ -9,6 +9,7 @@ ghost use Rattle.numeric_write.specs.declared.group_state.GroupState.TheVariants
 
 use crate::group_sink::GroupSink;
 use crate::group_state::GroupState;
+use crate::header::put_word;
 use division::sink::{Answer, DigitSink};
 
 // The state after a digit, with that many left.
@@ -99,9 +100,7 @@ impl<'a> GroupSink<'a> {
     {
         let left = self.left - 1;
         let group = self.group * 10 + u16::from(digit);
-        let at = 2 * self.count;
-        self.buffer[at] = (group / 256) as u8;
-        self.buffer[at + 1] = (group % 256) as u8;
+        put_word(self.buffer, 2 * self.count, group);
         self.count += 1;
         self.group = 0;
         self.places = 0;
@@ -165,8 +164,7 @@ fn put_last(buffer: &mut [u8], count: usize, last: u16)
     if count == 0 && last == 0 {
         return;
     }
-    buffer[2 * count] = (last / 256) as u8;
-    buffer[2 * count + 1] = (last % 256) as u8;
+    put_word(buffer, 2 * count, last);
 }
 
 impl<'a> DigitSink for GroupSink<'a> {

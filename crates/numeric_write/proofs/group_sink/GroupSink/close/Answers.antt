@@ -13,13 +13,14 @@ returns c =
       on = record {
         lender = refl;
         step = omega (arith, c.requires.places);
-        laid = λ b h. laid_more b s.buffer.now s.count (s.group * 10 + c.from.result) h (omega arith) small (λ z. omega (arith, c.requires.first z));
+        laid = λ b h. rw c.put_word.ensures (laid_more b s.buffer.now s.count (s.group * 10 + c.from.result) h (omega arith) small (λ z. omega (arith, c.requires.first z)));
       };
       takes = record {
         digit = omega arith;
         taken = omega arith;
         left = omega arith;
-        held = held_close s.buffer.now s.count s.places s.group c.from.result c.requires.places (omega arith)
+        held = ap (λ x. held x (s.count + 1) 0 0) c.put_word.ensures
+            ∙ held_close s.buffer.now s.count s.places s.group c.from.result c.requires.places (omega arith)
             ∙ ap (shifted (held s.buffer.now s.count s.places s.group)) c.from.ensures;
       };
     }

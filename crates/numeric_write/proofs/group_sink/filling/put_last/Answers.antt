@@ -7,5 +7,5 @@ returns-then-last-eq0 c before l = finished_skip before c.args.buffer.now c.args
 
 pub returns : goal.returns
 returns c before l =
-    finished_put before c.args.buffer.now c.args.count c.args.last l c.requires.room c.requires.small
-    (λ z. ⊎_elim (λ w. omega (arith, w.1)) (λ w. absurd (w z)) c.else-count-eq0.either)
+    rw c.put_word.ensures (finished_put before c.args.buffer.now c.args.count c.args.last l c.requires.room c.requires.small
+    (λ z. ⊎_elim (λ w. omega (arith, w.1)) (λ w. absurd (w z)) c.else-count-eq0.either))
