@@ -1,46 +1,45 @@
 // The next digit of a fraction.
 ghost use Rattle.std.specs.Prelude.{◌≡◌, ◌*◌, ◌/◌, ◌%◌, ◌<◌};
 
-use crate::certain::{below, byte, difference, divided, product, sum};
-use generic::counting::CountingNumber;
 use generic::integer::GenericInteger;
 
 // The next digit of the fraction r over d, and the remainder after it.
-pub(crate) fn digit_step<T: GenericInteger + CountingNumber>(r: T, d: T) -> (u8, T)
+pub(crate) fn digit_step<T: GenericInteger>(r: T, d: T) -> (u8, T)
     requires { T.number r < T.number d }
     ensures exact { (result.0 ≡ 10 * T.number r / T.number d) × (T.number result.1 ≡ 10 * T.number r % T.number d) }
     ensures small { (result.0 < 10) × (T.number result.1 < T.number d) }
 {
     match T::ten().checked_mul(r) {
         Some(tenfold) => {
-            let (digit, remainder) = divided(tenfold, d);
-            (byte(digit), remainder)
+            let (digit, remainder) = tenfold.div_rem(d).unwrap();
+            (digit.to_u8().unwrap(), remainder)
         }
         None => corrected_step(r, d),
     }
 }
 
 // The same where ten times r passes the type's greatest: a trial digit, r over the tenth of d, is lowered until it fits.
-fn corrected_step<T: GenericInteger + CountingNumber>(r: T, d: T) -> (u8, T)
+fn corrected_step<T: GenericInteger>(r: T, d: T) -> (u8, T)
     requires { (T.number r < T.number d) × (T.greatest < 10 * T.number r) }
     ensures exact { (result.0 ≡ 10 * T.number r / T.number d) × (T.number result.1 ≡ 10 * T.number r % T.number d) }
     ensures small { (result.0 < 10) × (T.number result.1 < T.number d) }
 {
     let ten = T::ten();
-    let (tenth, unit) = divided(d, ten);
-    let unit = byte(unit);
-    let (trial, mut rest) = divided(r, tenth);
-    let mut digit = byte(trial);
+    let (tenth, unit) = d.div_rem(ten).unwrap();
+    let unit = unit.to_u8().unwrap();
+    let (trial, mut rest) = r.div_rem(tenth).unwrap();
+    let mut digit = trial.to_u8().unwrap();
     // digit × d is at most 10 × r exactly where digit × unit is at most 10 × rest.
     'trial: loop {
         let owed = digit * unit;
         let tens = (owed + 9) / 10;
         let whole = T::from_u16(u16::from(tens));
-        if !below(rest, whole) {
+        if rest.compare(whole).is_ge() {
             let over = T::from_u16(u16::from(tens * 10 - owed));
-            break (digit, sum(product(ten, difference(rest, whole)), over));
+            let tenfold = rest.checked_sub(whole).unwrap().checked_mul(ten).unwrap();
+            break (digit, tenfold.checked_add(over).unwrap());
         }
         digit -= 1;
-        rest = sum(rest, tenth);
+        rest = rest.checked_add(tenth).unwrap();
     }
 }

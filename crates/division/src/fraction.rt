@@ -5,16 +5,14 @@ ghost use Rattle.division.specs.Expansion.{Went, coming};
 ghost use Rattle.division.specs.Resume.{Resumes};
 
 use crate::block::put_four;
-use crate::certain::{below, share};
 use crate::digit::digit_step;
 use crate::fault::DivisionFault;
 use crate::sink::{Answer, DigitSink};
 use crate::state::{DivisionState, Refused, Resumed};
-use generic::counting::CountingNumber;
 use generic::integer::GenericInteger;
 
 // Offers the next four digits, from one division, where others follow them.
-fn offer_four<T: GenericInteger + CountingNumber, S: DigitSink>(
+fn offer_four<T: GenericInteger, S: DigitSink>(
     remainder: T,
     divisor: T,
     sink: &mut S,
@@ -24,7 +22,7 @@ fn offer_four<T: GenericInteger + CountingNumber, S: DigitSink>(
     ensures block { Block T.number S.step (T.number divisor) (T.number remainder) (S.taken sink.old) (S.left sink.old) (S.held sink.old) (S.taken sink.new) (S.left sink.new) (S.held sink.new) result }
     ensures on { S.on sink.old sink.new }
 {
-    let (four, after) = share(remainder, 10_000, divisor);
+    let (four, after) = remainder.scaled(10_000, divisor).unwrap();
     if after.is_zero() {
         return None;
     }
@@ -33,7 +31,7 @@ fn offer_four<T: GenericInteger + CountingNumber, S: DigitSink>(
 }
 
 // Offers the next digits of the fraction one by one until it ends or the sink wants no more, and answers the remainder then.
-fn ones<T: GenericInteger + CountingNumber, S: DigitSink>(first: T, divisor: T, sink: &mut S) -> T
+fn ones<T: GenericInteger, S: DigitSink>(first: T, divisor: T, sink: &mut S) -> T
     requires { T.number first < T.number divisor }
     ensures went { Went S.step (T.number divisor) (T.number first) 0 (coming (T.number divisor) (T.number first) (S.left sink.old)) (S.taken sink.old) (S.left sink.old) (S.held sink.old) (S.taken sink.new) (S.left sink.new) (S.held sink.new) (T.number result) 0 }
     ensures on { S.on sink.old sink.new }
@@ -55,7 +53,7 @@ fn ones<T: GenericInteger + CountingNumber, S: DigitSink>(first: T, divisor: T, 
 }
 
 // The same, with four digits from one division while the sink takes as many and others follow them.
-fn advance<T: GenericInteger + CountingNumber, S: DigitSink>(
+fn advance<T: GenericInteger, S: DigitSink>(
     first: T,
     divisor: T,
     sink: &mut S,
@@ -76,7 +74,7 @@ fn advance<T: GenericInteger + CountingNumber, S: DigitSink>(
 
 // Goes on with the fraction, and hands back the state after the digits taken. Refused with 7 where the divisor is 0, and else
 // with 8 where the remainder is not below it: nothing is then offered, and the very state is handed back.
-pub fn divide_rem_resume<T: GenericInteger + CountingNumber, S: DigitSink>(
+pub fn divide_rem_resume<T: GenericInteger, S: DigitSink>(
     state: DivisionState<T>,
     sink: &mut S,
 ) -> Result<Resumed<T>, Refused<T>>
@@ -90,7 +88,7 @@ pub fn divide_rem_resume<T: GenericInteger + CountingNumber, S: DigitSink>(
             fault: DivisionFault::ZeroDivisor,
         });
     }
-    if !below(state.remainder, state.divisor) {
+    if state.remainder.compare(state.divisor).is_ge() {
         return Err(Refused {
             state,
             fault: DivisionFault::RemainderNotBelow,
@@ -104,7 +102,7 @@ pub fn divide_rem_resume<T: GenericInteger + CountingNumber, S: DigitSink>(
 }
 
 // Begins the division of the remainder by the divisor, with no whole part, and goes on with it.
-pub fn divide_rem<T: GenericInteger + CountingNumber, S: DigitSink>(
+pub fn divide_rem<T: GenericInteger, S: DigitSink>(
     remainder: T,
     divisor: T,
     sink: &mut S,

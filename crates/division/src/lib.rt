@@ -2,7 +2,6 @@
 #![tactic(auto)]
 
 mod block;
-mod certain;
 pub mod counter;
 pub mod cut;
 mod digit;

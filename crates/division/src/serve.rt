@@ -8,12 +8,11 @@ use crate::fraction::divide_rem_resume;
 use crate::sink::DigitSink;
 use crate::state::{Division, DivisionState, Integral};
 use crate::whole::{divide_integral, open};
-use generic::counting::CountingNumber;
 use generic::integer::GenericInteger;
 
 // Serves the sinks, one after another, with the digits of n over d: one call for each, on the state that the one before handed
 // back. Refused with 7 exactly when d is 0. No run of calls loses a digit, and neither does this one.
-pub fn serve<T: GenericInteger + CountingNumber, S: DigitSink>(
+pub fn serve<T: GenericInteger, S: DigitSink>(
     n: T,
     d: T,
     sinks: &mut [S],
@@ -25,7 +24,7 @@ pub fn serve<T: GenericInteger + CountingNumber, S: DigitSink>(
 }
 
 // The same with a division begun without a whole part. Where 7 or 8 refuses its calls, no sink and no number changes.
-pub fn serve_rem<T: GenericInteger + CountingNumber, S: DigitSink>(
+pub fn serve_rem<T: GenericInteger, S: DigitSink>(
     remainder: T,
     divisor: T,
     sinks: &mut [S],
@@ -37,7 +36,7 @@ pub fn serve_rem<T: GenericInteger + CountingNumber, S: DigitSink>(
     serve_on(Division::Fraction { state }, sinks)
 }
 
-fn serve_whole<T: GenericInteger + CountingNumber, S: DigitSink>(
+fn serve_whole<T: GenericInteger, S: DigitSink>(
     n: T,
     d: T,
     sinks: &mut [S],
@@ -52,7 +51,7 @@ fn serve_whole<T: GenericInteger + CountingNumber, S: DigitSink>(
 }
 
 // One call on a division, wherever it stands.
-fn next<T: GenericInteger + CountingNumber, S: DigitSink>(
+fn next<T: GenericInteger, S: DigitSink>(
     division: Division<T>,
     sink: &mut S,
 ) -> Division<T>
@@ -76,7 +75,7 @@ fn next<T: GenericInteger + CountingNumber, S: DigitSink>(
 }
 
 // One call for each sink, in order, on the state that the one before handed back.
-fn serve_on<T: GenericInteger + CountingNumber, S: DigitSink>(
+fn serve_on<T: GenericInteger, S: DigitSink>(
     start: Division<T>,
     sinks: &mut [S],
 ) -> Division<T>

@@ -3,15 +3,13 @@ ghost use Rattle.std.specs.Prelude.{◌≡◌, ◌-◌, ◌*◌, ◌^◌, ◌<�
 ghost use Rattle.division.specs.Whole.{SoundState, Begun, Opens, Integrates, Follows};
 
 use crate::block::put_all;
-use crate::certain::{below, byte, divided};
 use crate::fault::DivisionFault;
 use crate::sink::{Answer, DigitSink};
 use crate::state::{DivisionState, Integral, IntegralState};
-use generic::counting::CountingNumber;
 use generic::integer::GenericInteger;
 
 // Begins the division of n by d, with all digits of its whole part to come. Refused with 7 exactly when d is 0.
-pub fn open<T: GenericInteger + CountingNumber>(
+pub fn open<T: GenericInteger>(
     n: T,
     d: T,
 ) -> Result<IntegralState<T>, DivisionFault>
@@ -25,24 +23,19 @@ pub fn open<T: GenericInteger + CountingNumber>(
 }
 
 // The unit of the first digit is the greatest that n reaches, or the divisor itself.
-fn begun<T: GenericInteger + CountingNumber>(n: T, d: T) -> IntegralState<T>
+fn begun<T: GenericInteger>(n: T, d: T) -> IntegralState<T>
     requires { 0 < T.number d }
     ensures { Begun T.number T.greatest n d result }
 {
     let ten = T::ten();
     let mut unit = d;
     let mut place = 1;
-    'widen: loop {
-        match ten.checked_mul(unit) {
-            Some(next) => {
-                if below(n, next) {
-                    break;
-                }
-                unit = next;
-                place += 1;
-            }
-            None => break,
+    'widen: while let Some(next) = ten.checked_mul(unit) {
+        if n.compare(next).is_lt() {
+            break;
         }
+        unit = next;
+        place += 1;
     }
     IntegralState {
         rest: n,
@@ -53,7 +46,7 @@ fn begun<T: GenericInteger + CountingNumber>(n: T, d: T) -> IntegralState<T>
 }
 
 // The state after a digit, with what it leaves of the rest.
-fn after<T: GenericInteger + CountingNumber>(rest: T, divisor: T, unit: T, place: u8) -> Integral<T>
+fn after<T: GenericInteger>(rest: T, divisor: T, unit: T, place: u8) -> Integral<T>
     requires divisor { 0 < T.number divisor }
     requires place { 0 < place }
     requires unit { T.number unit ≡ 10 ^ (place - 1) * T.number divisor }
@@ -68,7 +61,7 @@ fn after<T: GenericInteger + CountingNumber>(rest: T, divisor: T, unit: T, place
             },
         }
     } else {
-        let (unit, _) = divided(unit, T::ten());
+        let (unit, _) = unit.div_rem(T::ten()).unwrap();
         Integral::Paused {
             state: IntegralState {
                 rest,
@@ -81,7 +74,7 @@ fn after<T: GenericInteger + CountingNumber>(rest: T, divisor: T, unit: T, place
 }
 
 // Goes on with the whole part, and hands back the state after the digits taken: paused while digits of it are to come.
-pub fn divide_integral<T: GenericInteger + CountingNumber, S: DigitSink>(
+pub fn divide_integral<T: GenericInteger, S: DigitSink>(
     state: IntegralState<T>,
     sink: &mut S,
 ) -> Integral<T>
@@ -98,7 +91,7 @@ pub fn divide_integral<T: GenericInteger + CountingNumber, S: DigitSink>(
 }
 
 // Offers all digits of the whole part that are still to come, from one division, to a sink that takes as many.
-fn at_once<T: GenericInteger + CountingNumber, S: DigitSink>(
+fn at_once<T: GenericInteger, S: DigitSink>(
     state: IntegralState<T>,
     sink: &mut S,
 ) -> Integral<T>
@@ -107,7 +100,7 @@ fn at_once<T: GenericInteger + CountingNumber, S: DigitSink>(
     ensures went { Integrates T.number T.greatest S.step state (S.taken sink.old) (S.left sink.old) (S.held sink.old) (S.taken sink.new) (S.left sink.new) (S.held sink.new) result }
     ensures on { S.on sink.old sink.new }
 {
-    let (quotient, remainder) = divided(state.rest, state.divisor);
+    let (quotient, remainder) = state.rest.div_rem(state.divisor).unwrap();
     put_all(sink, quotient.to_u64(), state.place);
     Integral::Ended {
         state: DivisionState {
@@ -118,7 +111,7 @@ fn at_once<T: GenericInteger + CountingNumber, S: DigitSink>(
 }
 
 // Offers the next digits of the whole part one by one until it ends or the sink wants no more.
-fn advance<T: GenericInteger + CountingNumber, S: DigitSink>(
+fn advance<T: GenericInteger, S: DigitSink>(
     first: IntegralState<T>,
     sink: &mut S,
 ) -> Integral<T>
@@ -128,8 +121,8 @@ fn advance<T: GenericInteger + CountingNumber, S: DigitSink>(
 {
     let mut state = first;
     'digits: loop {
-        let (digit, rest) = divided(state.rest, state.unit);
-        match sink.offer(byte(digit)) {
+        let (digit, rest) = state.rest.div_rem(state.unit).unwrap();
+        match sink.offer(digit.to_u8().unwrap()) {
             Answer::NotDigit => unreachable(),
             Answer::Full => return Integral::Paused { state },
             Answer::Enough => return after(rest, state.divisor, state.unit, state.place),

@@ -8,10 +8,11 @@ put_all-requires g c =
     let number = g.T.CountingNumber.number in
     let state = c.args.state in
     let sound = c.requires.sound in
+    let divided = rw c.unwrap.ensures at c.div_rem.ensures in
     record {
       any = sound.place;
       few = few_places state.place (number state.unit) (number state.divisor) sound.unit sound.divisor (omega (arith, sound.fits, g.met.T.CountingNumber.widest));
-      number = rw (c.to_u64.ensures ∙ c.divided.ensures.0) (quotient_below _ _ _ _ _ sound);
+      number = rw (c.to_u64.ensures ∙ divided.1) (quotient_below _ _ _ _ _ sound);
       some = c.requires.some;
     }
 
@@ -22,15 +23,16 @@ returns g c =
     let m = number state.rest in
     let d = number state.divisor in
     let sound = c.requires.sound in
+    let divided = rw c.unwrap.ensures at c.div_rem.ensures in
     let near : m % d < d = mod-lt m sound.divisor in
     record {
       went = (
         c.requires.some,
         refl,
-        omega (arith, c.divided.ensures.1),
+        omega (arith, divided.2),
         (
           sound.place,
-          went_whole d sound.divisor g.S.DigitSink.step m state.place c.to_u64.result _ _ _ _ _ _ _ (rest_below _ _ _ _ _ sound) c.requires.some (c.to_u64.ensures ∙ c.divided.ensures.0) c.divided.ensures.1 c.put_all.ensures.takes,
+          went_whole d sound.divisor g.S.DigitSink.step m state.place c.to_u64.result _ _ _ _ _ _ _ (rest_below _ _ _ _ _ sound) c.requires.some (c.to_u64.ensures ∙ divided.1) divided.2 c.put_all.ensures.takes,
         ),
       );
       on = c.put_all.ensures.on;

@@ -1,8 +1,8 @@
 use Rattle.std.proofs.Common.{◌≡◌, ◌+◌, ◌-◌, ◌*◌, ◌<◌, sym, refl, ◌∙◌, one-mul, arith}
 use Rattle.division.proofs.Places.{begun_sound, begun_width, unit_up, few_places}
-use Rattle.division.proofs.Tests.{not_below, past}
+use Rattle.division.proofs.Tests.{less, not_less, past}
 use Rattle.division.proofs.whole.begun.Goals as goal
-use Rattle.division.proofs.whole.begun.Goals.{in-Some+then-below, in-None}
+use Rattle.division.proofs.whole.begun.Goals.{in-Some+then-is_lt, in_default}
 
 pub widen-init : goal.widen-init
 widen-init g c = (omega arith, sym (one-mul _), λ h. absurd (omega arith), c.requires)
@@ -22,7 +22,7 @@ pub widen-preserved : goal.widen-preserved
 widen-preserved g c =
     let p = c.widen.place in
     let next = rw c.ten-ten.ensures at c.in-Some.ensures.1 in
-    let le = not_below _ _ c.if-below.ensures.1 in
+    let le = not_less _ _ _ c.compare.ensures c.if-is_lt.ensures in
     let e : p + 1 - 1 ≡ p = omega arith in (
       omega arith,
       rw e (rw c.widen.invariant.1 at next ∙ unit_up p (g.T.CountingNumber.number c.args.d) c.widen.invariant.0),
@@ -40,11 +40,11 @@ returns g c =
     let bound = g.met.T.CountingNumber.within c.args.n in
     let below : n < 10 * u =
     elim c.match-checked_mul.branch [
-      | in-Some+then-below w ↦
+      | in-Some+then-is_lt w ↦
           let next = rw c.ten-ten.ensures at w.in-Some.ensures.1 in
-          let less = w.if-below.ensures.0 refl in
+          let small = less _ _ _ w.compare.ensures w.if-is_lt.ensures in
           omega arith
-      | in-None w ↦ let over = past _ _ (rw c.ten-ten.ensures at w.in-None.ensures) in omega arith
+      | in_default w ↦ let over = past _ _ (rw c.ten-ten.ensures at w.in_default.ensures) in omega arith
     ] in (
       begun_sound n _ u _ _ c.requires inv.0 inv.1 (g.met.T.CountingNumber.within c.widen.unit) below,
       refl,
