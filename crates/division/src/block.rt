@@ -3,7 +3,7 @@ ghost use Rattle.std.specs.Prelude.{◌≡◌, ◌*◌, ◌/◌, ◌%◌, ◌^�
 ghost use Rattle.division.specs.Expansion.{digits};
 ghost use Rattle.division.specs.Sink.{Takes, TakesAll};
 
-use crate::sink::{Answer, DigitSink};
+use crate::sink::DigitSink;
 
 pub(crate) fn put<S: DigitSink>(sink: &mut S, digit: u8)
     requires digit { digit < 10 }
@@ -11,12 +11,7 @@ pub(crate) fn put<S: DigitSink>(sink: &mut S, digit: u8)
     ensures takes { Takes S.step (S.taken sink.old) (S.left sink.old) (S.held sink.old) digit (S.taken sink.new) (S.left sink.new) (S.held sink.new) }
     ensures on { S.on sink.old sink.new }
 {
-    match sink.offer(digit) {
-        Answer::More => {}
-        Answer::Enough => {}
-        Answer::Full => unreachable(),
-        Answer::NotDigit => unreachable(),
-    }
+    let _ = sink.offer(digit);
 }
 
 // The four digits of a number below ten thousand, highest first, each from what those above it leave.
@@ -94,11 +89,10 @@ pub(crate) fn put_all<S: DigitSink>(sink: &mut S, number: u64, count: u8)
     ensures takes { TakesAll S.step (S.taken sink.old) (S.left sink.old) (S.held sink.old) (digits 1 number count count) (S.taken sink.new) (S.left sink.new) (S.held sink.new) }
     ensures on { S.on sink.old sink.new }
 {
-    let mut groups = (count - 1) / 4;
+    let groups = (count - 1) / 4;
     let (first, mut rest) = split(number, groups);
     put_group(sink, first, count - 4 * groups);
-    'fours: while groups > 0 {
-        groups -= 1;
+    for groups in (0..groups).rev() {
         let (four, below) = split(rest, groups);
         put_group(sink, four, 4);
         rest = below;

@@ -84,8 +84,8 @@ fn serve_on<T: GenericInteger, S: DigitSink>(
     ensures run { Served T.number T.greatest S.DigitSink start sinks.old sinks.new result }
 {
     let mut division = start;
-    for i in 0..sinks.len() {
-        division = next(division, &mut sinks[i]);
+    for sink in sinks {
+        division = next(division, sink);
     }
     division
 }

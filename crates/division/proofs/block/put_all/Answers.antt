@@ -10,8 +10,8 @@ split-first-requires g c = record { groups = omega arith; high = above_below _ c
 pub put_group-requires : goal.put_group-requires
 put_group-requires g c = record { any = omega arith; few = omega arith; number = rw c.split-first.ensures.0 (above_small _ c.args.count _ (omega arith) c.requires.number); some = omega arith }
 
-pub fours-init : goal.fours-init
-fours-init g c =
+pub loop-groups-init : goal.loop-groups-init
+loop-groups-init g c =
     let s = g.S.DigitSink in
     let groups = (c.args.count - 1) / 4 in
     let above = c.args.count - 4 * groups in
@@ -24,31 +24,31 @@ fours-init g c =
     )
 
 pub split-four-requires : goal.split-four-requires
-split-four-requires g c = record { groups = omega arith; high = group_small _ c.fours.groups (omega arith) c.fours.invariant.1 }
+split-four-requires g c = record { groups = omega arith; high = group_small _ c.loop-groups.groups (omega arith) c.loop-groups.invariant.1 }
 
-pub put_group-requires-in-fours : goal.put_group-requires-in-fours
-put_group-requires-in-fours g c = record { any = omega arith; few = omega arith; number = rw c.split-four.ensures.0 (group_small _ c.fours.groups (omega arith) c.fours.invariant.1); some = omega (arith, c.fours.invariant.2) }
+pub put_group-requires-in-loop-groups : goal.put_group-requires-in-loop-groups
+put_group-requires-in-loop-groups g c = record { any = omega arith; few = omega arith; number = rw c.split-four.ensures.0 (group_small _ c.loop-groups.groups (omega arith) c.loop-groups.invariant.1); some = omega (arith, c.loop-groups.invariant.2) }
 
-pub fours-preserved : goal.fours-preserved
-fours-preserved g c =
+pub loop-groups-preserved : goal.loop-groups-preserved
+loop-groups-preserved g c =
     let s = g.S.DigitSink in
-    let inv = c.fours.invariant in
-    let takes = c.put_group-in-fours.ensures.takes in (
+    let inv = c.loop-groups.invariant in
+    let takes = c.put_group-in-loop-groups.ensures.takes in (
       omega arith,
-      rw c.split-four.ensures.1 (mod-lt c.fours.rest (ten_pos (4 * (c.fours.groups - 1)))),
+      rw c.split-four.ensures.1 (mod-lt c.loop-groups.rest (ten_pos (4 * (c.loop-groups.groups - 1)))),
       omega (arith, takes.left),
-      group_less s.step _ _ _ _ c.fours.rest c.fours.groups c.split-four.result.0 c.split-four.result.1 _ _ _ _ _ _ (omega arith) inv.1 c.split-four.ensures.0 c.split-four.ensures.1 takes inv.3,
-      s.order.joins _ _ _ inv.4 c.put_group-in-fours.ensures.on,
+      group_less s.step _ _ _ _ c.loop-groups.rest c.loop-groups.groups c.split-four.result.0 c.split-four.result.1 _ _ _ _ _ _ (omega arith) inv.1 c.split-four.ensures.0 c.split-four.ensures.1 takes inv.3,
+      s.order.joins _ _ _ inv.4 c.put_group-in-loop-groups.ensures.on,
     )
 
 pub returns : goal.returns
 returns g c =
     let s = g.S.DigitSink in
-    let inv = c.fours.invariant in
+    let inv = c.loop-groups.invariant in
     let parts = c.split-first.ensures in
     record {
       takes = takes_parts s.step c.args.number c.args.count ((c.args.count - 1) / 4) c.split-first.result.0 c.split-first.result.1 _ _ _ _ _ _ _ _ _ (omega arith) c.requires.number parts.0 parts.1
           c.put_group.ensures.takes
-          (groups_done s.step _ _ _ _ c.fours.rest c.fours.groups _ _ _ c.fours-test.false inv.3);
+          (groups_done s.step _ _ _ _ c.loop-groups.rest c.loop-groups.groups _ _ _ c.loop-groups-test.false inv.3);
       on = s.order.joins _ _ _ c.put_group.ensures.on inv.4;
     }

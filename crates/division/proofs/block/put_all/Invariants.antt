@@ -3,8 +3,8 @@ use Rattle.division.specs.Expansion.{digits}
 use Rattle.division.proofs.Puts.{Remain}
 use Rattle.division.proofs.block.put_all.Given as goal
 
-abbrev pub invariant-fours : goal.invariant-fours
-invariant-fours g l =
+abbrev pub invariant-loop-groups : goal.invariant-loop-groups
+invariant-loop-groups g l =
     let s = g.S.DigitSink in
     let now = l.sink in
     let was = l.initial.sink in
@@ -15,5 +15,3 @@ invariant-fours g l =
     (s.taken now) (s.left now) (s.held now) (digits 1 l.rest (4 * l.groups) (4 * l.groups))
     × s.on was now
 
-abbrev pub decreases-fours : goal.decreases-fours
-decreases-fours g l = l.groups
