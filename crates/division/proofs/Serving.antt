@@ -1,9 +1,12 @@
 -- One call more on a division that serves sinks.
 use Rattle.std.proofs.Common.{◌≡◌, ℕ, List, [], ◌∷◌, ◌++◌, sym, refl, ap, ◌∙◌, subst}
-use Rattle.division.specs.Runs.{Kind, Call, Made, Run, seen, last_rest, last_place}
+use Rattle.division.specs.Runs.{Kind, whole, Call, Made, Run, seen, last_rest, last_place}
 use Rattle.division.specs.Serve.{divisor_of, rest_of, place_of, SoundDivision, Seen, Serves, Steps, Served}
 use Rattle.division.specs.declared.sink.DigitSink.{Ghosts}
+use Rattle.division.specs.Whole.{Integrates}
 use Rattle.division.specs.declared.state.Division.{Division}
+use Rattle.division.specs.declared.state.Division.TheVariants.{Whole, Fraction}
+use Rattle.division.specs.declared.state.IntegralState.{IntegralState}
 use Rattle.division.proofs.Lost.{leading}
 use Rattle.division.proofs.Runs.{one_expansion}
 
@@ -69,3 +72,11 @@ steps number most sink before before' s t after kind same on divisor sound made 
       divisor = divisor;
       sound = sound;
     })
+
+-- A call on the whole part.
+pub integrated : {X S : Type 0} (number : X → ℕ) (most : ℕ) (sink : Ghosts S) (before : Division X) (state : IntegralState X) (s t : S) (after : Division X) → before ≡ Whole state → sink.on s t
+    → Integrates number most sink.step state (sink.taken s) (sink.left s) (sink.held s) (sink.taken t) (sink.left t) (sink.held t) after → Steps number most sink before s t after
+integrated number most sink before state s t (Whole a) same on went =
+    steps number most sink (Whole state) before s t (Whole a) whole same on went.1 went.2 went.3
+integrated number most sink before state s t (Fraction a) same on went =
+    steps number most sink (Whole state) before s t (Fraction a) whole same on went.1 tt went.3

@@ -5,8 +5,8 @@ use Rattle.division.specs.Faults.{refusal}
 use Rattle.division.specs.Runs.{whole, Made, seen}
 use Rattle.division.specs.declared.fault.DivisionFault.{DivisionFault}
 use Rattle.division.specs.declared.state.IntegralState.{IntegralState}
-use Rattle.division.specs.declared.state.Integral.{Integral}
-use Rattle.division.specs.declared.state.Integral.TheVariants.{Paused, Ended}
+use Rattle.division.specs.declared.state.Division.{Division}
+use Rattle.division.specs.declared.state.Division.TheVariants.{Whole, Fraction}
 
 -- What all makers of a state in the whole part promise: digits of the whole part are still to come, m < 10^p × d, and the
 -- unit of the next digit, 10^(p-1) × d, is a number of the type.
@@ -36,15 +36,15 @@ Opens number most n d (Ok s) = Begun number most n d s
 Opens number most n d (Err f) = (number d ≡ 0) × (refusal f ≡ refuses 7 [])
 
 -- Going on with the whole part. It is paused while digits of it are still to come.
-abbrev pub Integrates : {X : Type 0} → (X → ℕ) → ℕ → (ℕ → ℕ → ℕ) → IntegralState X → ℕ → ℕ → ℕ → ℕ → ℕ → ℕ → Integral X → Type 0
-Integrates number most step s t l h t' l' h' (Paused a) =
+abbrev pub Integrates : {X : Type 0} → (X → ℕ) → ℕ → (ℕ → ℕ → ℕ) → IntegralState X → ℕ → ℕ → ℕ → ℕ → ℕ → ℕ → Division X → Type 0
+Integrates number most step s t l h t' l' h' (Whole a) =
     (l < s.place) × (a.divisor ≡ s.divisor) × SoundState number most a
     × Made (number s.divisor) (number s.rest) s.place (seen whole step t l h t' l' h' (number a.rest) a.place)
-Integrates number most step s t l h t' l' h' (Ended a) =
+Integrates number most step s t l h t' l' h' (Fraction a) =
     (s.place ≤ l) × (a.divisor ≡ s.divisor) × (number a.remainder < number a.divisor)
     × Made (number s.divisor) (number s.rest) s.place (seen whole step t l h t' l' h' (number a.remainder) 0)
 
 -- The state after a digit, with the rest m.
-abbrev pub Follows : {X : Type 0} → (X → ℕ) → ℕ → X → X → ℕ → Integral X → Type 0
-Follows number most m d p (Paused a) = (1 < p) × (a.rest ≡ m) × (a.divisor ≡ d) × (a.place ≡ p - 1) × SoundState number most a
-Follows number most m d p (Ended a) = (p ≡ 1) × (a.remainder ≡ m) × (a.divisor ≡ d) × (number m < number d)
+abbrev pub Follows : {X : Type 0} → (X → ℕ) → ℕ → X → X → ℕ → Division X → Type 0
+Follows number most m d p (Whole a) = (1 < p) × (a.rest ≡ m) × (a.divisor ≡ d) × (a.place ≡ p - 1) × SoundState number most a
+Follows number most m d p (Fraction a) = (p ≡ 1) × (a.remainder ≡ m) × (a.divisor ≡ d) × (number m < number d)

@@ -12,11 +12,7 @@ use crate::state::{DivisionState, Refused, Resumed};
 use generic::integer::GenericInteger;
 
 // Offers the next four digits, from one division, where others follow them.
-fn offer_four<T: GenericInteger, S: DigitSink>(
-    remainder: T,
-    divisor: T,
-    sink: &mut S,
-) -> Option<T>
+fn offer_four<T: GenericInteger, S: DigitSink>(remainder: T, divisor: T, sink: &mut S) -> Option<T>
     requires below { T.number remainder < T.number divisor }
     requires some { 4 ≤ S.left sink.old }
     ensures block { Block T.number S.step (T.number divisor) (T.number remainder) (S.taken sink.old) (S.left sink.old) (S.held sink.old) (S.taken sink.new) (S.left sink.new) (S.held sink.new) result }
@@ -53,11 +49,7 @@ fn ones<T: GenericInteger, S: DigitSink>(first: T, divisor: T, sink: &mut S) -> 
 }
 
 // The same, with four digits from one division while the sink takes as many and others follow them.
-fn advance<T: GenericInteger, S: DigitSink>(
-    first: T,
-    divisor: T,
-    sink: &mut S,
-) -> T
+fn advance<T: GenericInteger, S: DigitSink>(first: T, divisor: T, sink: &mut S) -> T
     requires { T.number first < T.number divisor }
     ensures went { Went S.step (T.number divisor) (T.number first) 0 (coming (T.number divisor) (T.number first) (S.left sink.old)) (S.taken sink.old) (S.left sink.old) (S.held sink.old) (S.taken sink.new) (S.left sink.new) (S.held sink.new) (T.number result) 0 }
     ensures on { S.on sink.old sink.new }

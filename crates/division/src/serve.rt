@@ -6,7 +6,7 @@ ghost use Rattle.division.specs.declared.state.Division.TheVariants.{Fraction};
 use crate::fault::DivisionFault;
 use crate::fraction::divide_rem_resume;
 use crate::sink::DigitSink;
-use crate::state::{Division, DivisionState, Integral};
+use crate::state::{Division, DivisionState};
 use crate::whole::{divide_integral, open};
 use generic::integer::GenericInteger;
 
@@ -51,18 +51,12 @@ fn serve_whole<T: GenericInteger, S: DigitSink>(
 }
 
 // One call on a division, wherever it stands.
-fn next<T: GenericInteger, S: DigitSink>(
-    division: Division<T>,
-    sink: &mut S,
-) -> Division<T>
+fn next<T: GenericInteger, S: DigitSink>(division: Division<T>, sink: &mut S) -> Division<T>
     requires { SoundDivision T.number T.greatest division }
     ensures { Steps T.number T.greatest S.DigitSink division sink.old sink.new result }
 {
     match division {
-        Division::Whole { state } => match divide_integral(state, sink) {
-            Integral::Paused { state } => Division::Whole { state },
-            Integral::Ended { state } => Division::Fraction { state },
-        },
+        Division::Whole { state } => divide_integral(state, sink),
         Division::Fraction { state } => match divide_rem_resume(state, sink) {
             Ok(resumed) => Division::Fraction {
                 state: resumed.state,
@@ -75,10 +69,7 @@ fn next<T: GenericInteger, S: DigitSink>(
 }
 
 // One call for each sink, in order, on the state that the one before handed back.
-fn serve_on<T: GenericInteger, S: DigitSink>(
-    start: Division<T>,
-    sinks: &mut [S],
-) -> Division<T>
+fn serve_on<T: GenericInteger, S: DigitSink>(start: Division<T>, sinks: &mut [S]) -> Division<T>
     requires { SoundDivision T.number T.greatest start }
     ensures law { NoDigitLost }
     ensures run { Served T.number T.greatest S.DigitSink start sinks.old sinks.new result }

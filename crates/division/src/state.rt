@@ -69,18 +69,11 @@ pub struct Refused<T> {
     pub fault: DivisionFault,
 }
 
-// The whole part after a call.
-#[derive(Drop)]
-pub enum Integral<T> {
-    // Digits of the whole part are still to come.
-    Paused { state: IntegralState<T> },
-    // The whole part has ended.
-    Ended { state: DivisionState<T> },
-}
-
 // A division wherever it stands.
 #[derive(Drop)]
 pub enum Division<T> {
+    // Digits of the whole part are still to come.
     Whole { state: IntegralState<T> },
+    // The whole part has ended.
     Fraction { state: DivisionState<T> },
 }

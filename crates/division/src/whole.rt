@@ -5,14 +5,11 @@ ghost use Rattle.division.specs.Whole.{SoundState, Begun, Opens, Integrates, Fol
 use crate::block::put_all;
 use crate::fault::DivisionFault;
 use crate::sink::{Answer, DigitSink};
-use crate::state::{DivisionState, Integral, IntegralState};
+use crate::state::{Division, DivisionState, IntegralState};
 use generic::integer::GenericInteger;
 
 // Begins the division of n by d, with all digits of its whole part to come. Refused with 7 exactly when d is 0.
-pub fn open<T: GenericInteger>(
-    n: T,
-    d: T,
-) -> Result<IntegralState<T>, DivisionFault>
+pub fn open<T: GenericInteger>(n: T, d: T) -> Result<IntegralState<T>, DivisionFault>
     ensures { Opens T.number T.greatest n d result }
 {
     if d.is_zero() {
@@ -46,7 +43,7 @@ fn begun<T: GenericInteger>(n: T, d: T) -> IntegralState<T>
 }
 
 // The state after a digit, with what it leaves of the rest.
-fn after<T: GenericInteger>(rest: T, divisor: T, unit: T, place: u8) -> Integral<T>
+fn after<T: GenericInteger>(rest: T, divisor: T, unit: T, place: u8) -> Division<T>
     requires divisor { 0 < T.number divisor }
     requires place { 0 < place }
     requires unit { T.number unit ≡ 10 ^ (place - 1) * T.number divisor }
@@ -54,7 +51,7 @@ fn after<T: GenericInteger>(rest: T, divisor: T, unit: T, place: u8) -> Integral
     ensures { Follows T.number T.greatest rest divisor place result }
 {
     if place == 1 {
-        Integral::Ended {
+        Division::Fraction {
             state: DivisionState {
                 remainder: rest,
                 divisor,
@@ -62,7 +59,7 @@ fn after<T: GenericInteger>(rest: T, divisor: T, unit: T, place: u8) -> Integral
         }
     } else {
         let (unit, _) = unit.div_rem(T::ten()).unwrap();
-        Integral::Paused {
+        Division::Whole {
             state: IntegralState {
                 rest,
                 divisor,
@@ -77,7 +74,7 @@ fn after<T: GenericInteger>(rest: T, divisor: T, unit: T, place: u8) -> Integral
 pub fn divide_integral<T: GenericInteger, S: DigitSink>(
     state: IntegralState<T>,
     sink: &mut S,
-) -> Integral<T>
+) -> Division<T>
     requires { SoundState T.number T.greatest state }
     ensures went { Integrates T.number T.greatest S.step state (S.taken sink.old) (S.left sink.old) (S.held sink.old) (S.taken sink.new) (S.left sink.new) (S.held sink.new) result }
     ensures on { S.on sink.old sink.new }
@@ -91,10 +88,7 @@ pub fn divide_integral<T: GenericInteger, S: DigitSink>(
 }
 
 // Offers all digits of the whole part that are still to come, from one division, to a sink that takes as many.
-fn at_once<T: GenericInteger, S: DigitSink>(
-    state: IntegralState<T>,
-    sink: &mut S,
-) -> Integral<T>
+fn at_once<T: GenericInteger, S: DigitSink>(state: IntegralState<T>, sink: &mut S) -> Division<T>
     requires sound { SoundState T.number T.greatest state }
     requires some { state.place ≤ S.left sink.old }
     ensures went { Integrates T.number T.greatest S.step state (S.taken sink.old) (S.left sink.old) (S.held sink.old) (S.taken sink.new) (S.left sink.new) (S.held sink.new) result }
@@ -102,7 +96,7 @@ fn at_once<T: GenericInteger, S: DigitSink>(
 {
     let (quotient, remainder) = state.rest.div_rem(state.divisor).unwrap();
     put_all(sink, quotient.to_u64(), state.place);
-    Integral::Ended {
+    Division::Fraction {
         state: DivisionState {
             remainder,
             divisor: state.divisor,
@@ -111,10 +105,7 @@ fn at_once<T: GenericInteger, S: DigitSink>(
 }
 
 // Offers the next digits of the whole part one by one until it ends or the sink wants no more.
-fn advance<T: GenericInteger, S: DigitSink>(
-    first: IntegralState<T>,
-    sink: &mut S,
-) -> Integral<T>
+fn advance<T: GenericInteger, S: DigitSink>(first: IntegralState<T>, sink: &mut S) -> Division<T>
     requires { SoundState T.number T.greatest first }
     ensures went { Integrates T.number T.greatest S.step first (S.taken sink.old) (S.left sink.old) (S.held sink.old) (S.taken sink.new) (S.left sink.new) (S.held sink.new) result }
     ensures on { S.on sink.old sink.new }
@@ -124,11 +115,11 @@ fn advance<T: GenericInteger, S: DigitSink>(
         let (digit, rest) = state.rest.div_rem(state.unit).unwrap();
         match sink.offer(digit.to_u8().unwrap()) {
             Answer::NotDigit => unreachable(),
-            Answer::Full => return Integral::Paused { state },
+            Answer::Full => return Division::Whole { state },
             Answer::Enough => return after(rest, state.divisor, state.unit, state.place),
             Answer::More => match after(rest, state.divisor, state.unit, state.place) {
-                Integral::Ended { state } => return Integral::Ended { state },
-                Integral::Paused { state: next } => state = next,
+                Division::Whole { state: next } => state = next,
+                ended => return ended,
             },
         }
     }

@@ -3,7 +3,7 @@ use division::counter::Counter;
 use division::fault::DivisionFault;
 use division::fraction::divide_rem_resume;
 use division::sink::DigitSink;
-use division::state::Integral;
+use division::state::Division;
 use division::text::TextSink;
 use division::whole::{divide_integral, open};
 use generic::counting::CountingNumber;
@@ -17,13 +17,13 @@ fn thirty_over_two(rt: HostRuntime) -> Result<(), Fail> {
     let state = open(30u16, 2u16)?;
     assert_eq!(rt; state.place(), 2);
     match divide_integral(state, &mut sink) {
-        Integral::Paused { state } => {
+        Division::Whole { state } => {
             assert_eq!(rt; text, *b"1");
             assert_eq!(rt; state.rest(), 10);
             assert_eq!(rt; state.place(), 1);
             Ok(())
         }
-        Integral::Ended { .. } => Err(Fail::new("ended")),
+        Division::Fraction { .. } => Err(Fail::new("ended")),
     }
 }
 
@@ -35,16 +35,16 @@ fn paused_and_resumed(rt: HostRuntime) -> Result<(), Fail> {
     let mut first = TextSink::new(&mut front);
     let mut second = TextSink::new(&mut back);
     match divide_integral(open(101u16, 1u16)?, &mut first) {
-        Integral::Paused { state } => match divide_integral(state, &mut second) {
-            Integral::Ended { state } => {
+        Division::Whole { state } => match divide_integral(state, &mut second) {
+            Division::Fraction { state } => {
                 assert_eq!(rt; front, *b"1");
                 assert_eq!(rt; back, *b"01");
                 assert_eq!(rt; state.remainder(), 0);
                 Ok(())
             }
-            Integral::Paused { .. } => Err(Fail::new("paused")),
+            Division::Whole { .. } => Err(Fail::new("paused")),
         },
-        Integral::Ended { .. } => Err(Fail::new("ended")),
+        Division::Fraction { .. } => Err(Fail::new("ended")),
     }
 }
 
@@ -56,12 +56,12 @@ fn all_at_once(rt: HostRuntime) -> Result<(), Fail> {
     let _ = divide_integral(open(u64::MAX, 1u64)?, &mut TextSink::new(&mut twenty));
     assert_eq!(rt; twenty, *b"18446744073709551615");
     match divide_integral(open(u64::MAX, 700u64)?, &mut TextSink::new(&mut less)) {
-        Integral::Ended { state } => {
+        Division::Fraction { state } => {
             assert_eq!(rt; less, *b"26352491533870788\0\0\0");
             assert_eq!(rt; state.remainder(), 15);
             Ok(())
         }
-        Integral::Paused { .. } => Err(Fail::new("paused")),
+        Division::Whole { .. } => Err(Fail::new("paused")),
     }
 }
 
@@ -70,13 +70,13 @@ fn all_at_once(rt: HostRuntime) -> Result<(), Fail> {
 fn none_left(rt: HostRuntime) -> Result<(), Fail> {
     let mut none = Counter::new(0);
     match divide_integral(open(7u16, 9u16)?, &mut none) {
-        Integral::Paused { state } => {
+        Division::Whole { state } => {
             assert_eq!(rt; state.rest(), 7);
             assert_eq!(rt; state.place(), 1);
             assert_eq!(rt; none.taken(), 0);
             Ok(())
         }
-        Integral::Ended { .. } => Err(Fail::new("ended")),
+        Division::Fraction { .. } => Err(Fail::new("ended")),
     }
 }
 
@@ -101,7 +101,7 @@ fn packed(rt: HostRuntime) -> Result<(), Fail> {
     let n = PackedDecimal::from_word(0x1001)?;
     let d = PackedDecimal::from_word(0x8)?;
     match divide_integral(open(n, d)?, &mut whole) {
-        Integral::Ended { state } => {
+        Division::Fraction { state } => {
             assert_eq!(rt; state.remainder().to_u64(), 1);
             match divide_rem_resume(state, &mut fraction) {
                 Ok(resumed) => {
@@ -113,6 +113,6 @@ fn packed(rt: HostRuntime) -> Result<(), Fail> {
                 Err(_) => Err(Fail::new("refused")),
             }
         }
-        Integral::Paused { .. } => Err(Fail::new("paused")),
+        Division::Whole { .. } => Err(Fail::new("paused")),
     }
 }

@@ -14,4 +14,3 @@ invariant-loop-groups g l =
     × Remain s.step (s.taken was) (s.left was) (s.held was) (digits 1 l.initial.rest (4 * l.initial.groups) (4 * l.initial.groups))
     (s.taken now) (s.left now) (s.held now) (digits 1 l.rest (4 * l.groups) (4 * l.groups))
     × s.on was now
-

@@ -1,17 +1,11 @@
-use Rattle.division.specs.Runs.{whole, fraction, refused}
-use Rattle.division.specs.declared.state.Division.TheVariants.{Whole, Fraction}
-use Rattle.division.proofs.Serving.{steps}
+use Rattle.division.specs.Runs.{fraction, refused}
+use Rattle.division.specs.declared.state.Division.TheVariants.{Fraction}
+use Rattle.division.proofs.Serving.{steps, integrated}
 use Rattle.division.proofs.serve.next.Goals as goal
 
-pub returns-in-Paused : goal.returns-in-Paused
-returns-in-Paused g c =
-    let went = c.in-Paused.ensures.went in
-    steps _ _ _ (Whole c.in-Whole.state) _ _ _ (Whole c.in-Paused.state) whole c.in-Whole.is c.in-Paused.ensures.on went.1 went.2 went.3
-
-pub returns-in-Ended : goal.returns-in-Ended
-returns-in-Ended g c =
-    let went = c.in-Ended.ensures.went in
-    steps _ _ _ (Whole c.in-Whole.state) _ _ _ (Fraction c.in-Ended.state) whole c.in-Whole.is c.in-Ended.ensures.on went.1 tt went.3
+pub returns-in-Whole : goal.returns-in-Whole
+returns-in-Whole g c =
+    integrated _ _ _ _ c.in-Whole.state _ _ c.divide_integral.result c.in-Whole.is c.divide_integral.ensures.on c.divide_integral.ensures.went
 
 pub returns-in-Ok : goal.returns-in-Ok
 returns-in-Ok g c =

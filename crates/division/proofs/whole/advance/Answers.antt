@@ -19,7 +19,7 @@ pub digits-preserved : goal.digits-preserved
 digits-preserved g c =
     let number = g.T.CountingNumber.number in
     let inv = c.digits.invariant in
-    let going = c.in-Paused.ensures in
+    let going = c.in-Whole.ensures in
     let unit = inv.0.unit in
     let divided = rw c.unwrap.ensures at c.div_rem.ensures in
     let byte = rw c.unwrap-in-digits.ensures at c.to_u8.ensures in
