@@ -2,7 +2,8 @@
 use Rattle.std.proofs.Common.{◌≡◌, ℕ, zero, suc, ◌-◌, ◌*◌, ◌/◌, ◌^◌, ◌<◌, ◌≤◌, sym, ap, ◌∙◌, inl, inr, mul_assoc, div-lt_iff_lt-mul, mul-le-mul_left, mul-one, arith, lit<}
 use native.Mathlib.Nat.{pow-succ', pow-le-pow_right}
 use Rattle.std.proofs.lemmas.Bool.{cases_lt}
-use Rattle.division.specs.Whole.{Sound, Width}
+use Rattle.division.specs.Sound.{Sound}
+use Rattle.division.specs.Whole.{Width}
 
 -- ten times the unit of a place is the unit of the next
 pub unit_up : (p d : ℕ) → 0 < p → 10 * (10 ^ (p - 1) * d) ≡ 10 ^ p * d
@@ -24,9 +25,6 @@ few_places p u d e pos small =
     ]
 
 -- a state as it begins
-pub begun_sound : (n d u p most : ℕ) → 0 < d → 0 < p → u ≡ 10 ^ (p - 1) * d → u ≤ most → n < 10 * u → Sound n d u p most
-begun_sound n d u p most pos some eu fits below = record { divisor = pos; place = some; unit = eu; fits = fits; rest = below }
-
 pub begun_width : (n d u p : ℕ) → 0 < p → u ≡ 10 ^ (p - 1) * d → n < 10 * u → (1 < p → u ≤ n) → Width n d p
 begun_width n d u p some eu below no_zero =
     record {
@@ -47,13 +45,14 @@ pub quotient_below : (m d u p most : ℕ) → Sound m d u p most → m / d < 10 
 quotient_below m d u p most s = (div-lt_iff_lt-mul {k = d} {x = m} {y = 10 ^ p} s.divisor).1 (rest_below m d u p most s)
 
 -- the unit of the place below
-pub sound_down : (m d u p most u' : ℕ) → 0 < d → 1 < p → u ≡ 10 ^ (p - 1) * d → u ≤ most → m < u → u' ≡ u / 10 → Sound m d u' (p - 1) most
-sound_down m d u p most u' pos more eu fits below eu' =
+pub sound_down : (m d u p most m' u' : ℕ) → Sound m d u p most → ¬ (p ≡ 1) → m' < u → u' ≡ u / 10 → Sound m' d u' (p - 1) most
+sound_down m d u p most m' u' s more below eu' =
+    let some : 1 < p = omega (arith, s.place) in
     let up : 10 * (10 ^ (p - 1 - 1) * d) ≡ 10 ^ (p - 1) * d = unit_up (p - 1) d (omega arith) in
     record {
-      divisor = pos;
+      divisor = s.divisor;
       place = omega arith;
-      unit = omega arith;
-      fits = omega arith;
-      rest = omega arith;
+      unit = omega (arith, s.unit);
+      fits = omega (arith, s.fits);
+      rest = omega (arith, s.unit);
     }

@@ -10,4 +10,5 @@ pub mod Runs
 pub mod Serve
 pub mod Sink
 pub mod Sinks
+pub mod Sound
 pub mod Whole

@@ -1,33 +1,29 @@
 -- A division wherever it stands, and sinks that it serves one after another.
 use Rattle.std.specs.Prelude.{◌≡◌, ℕ, ◌*◌, ◌^◌, ◌<◌, ◌≤◌, List, [], ◌∷◌, Ok, Err, Result}
 use Rattle.generic.specs.Refusals.{refuses}
+use Rattle.generic.specs.declared.counting.CountingNumber as counting
 use Rattle.division.specs.Faults.{refusal}
 use Rattle.division.specs.Laws.{Leading, StandsStill}
 use Rattle.division.specs.Runs.{Call, Made, Run, last_rest, last_place}
-use Rattle.division.specs.Whole.{SoundState, Width}
+use Rattle.division.specs.Whole.{Width}
 use Rattle.division.specs.declared.fault.DivisionFault.{DivisionFault}
+use Rattle.division.specs.declared.integral_state.IntegralState.{IntegralState}
 use Rattle.division.specs.declared.sink.DigitSink.{Ghosts}
 use Rattle.division.specs.declared.state.Division.{Division}
 use Rattle.division.specs.declared.state.Division.TheVariants.{Whole, Fraction}
-use Rattle.division.specs.declared.state.IntegralState.{IntegralState}
 
 -- Its divisor, its rest, which in the fraction is the remainder, and its place, which in the fraction is 0.
-abbrev pub divisor_of : {X : Type 0} → Division X → X
+abbrev pub divisor_of : {X : Type 0} {g : counting.Ghosts X} → Division X g → X
 divisor_of (Whole s) = s.divisor
 divisor_of (Fraction s) = s.divisor
 
-abbrev pub rest_of : {X : Type 0} → Division X → X
+abbrev pub rest_of : {X : Type 0} {g : counting.Ghosts X} → Division X g → X
 rest_of (Whole s) = s.rest
 rest_of (Fraction s) = s.remainder
 
-abbrev pub place_of : {X : Type 0} → Division X → ℕ
+abbrev pub place_of : {X : Type 0} {g : counting.Ghosts X} → Division X g → ℕ
 place_of (Whole s) = s.place
 place_of (Fraction s) = 0
-
--- What all makers of a division in its whole part promise.
-abbrev pub SoundDivision : {X : Type 0} → (X → ℕ) → ℕ → Division X → Type 0
-SoundDivision number most (Whole s) = SoundState number most s
-SoundDivision number most (Fraction s) = Unit {0}
 
 -- A call took the sink from s to s'.
 pub record Seen {S : Type 0} (sink : Ghosts S) (s s' : S) (c : Call) : Type 0 where
@@ -47,36 +43,34 @@ Serves {S} sink (c ∷ cs) ss ts =
     (s : S) × (ss' : List S) × (t : S) × (ts' : List S) × (ss ≡ s ∷ ss') × (ts ≡ t ∷ ts') × Seen sink s t c × Serves sink cs ss' ts'
 
 -- One call takes a division and a sink on.
-pub record Steps {X S : Type 0} (number : X → ℕ) (most : ℕ) (sink : Ghosts S) (before : Division X) (s s' : S) (after : Division X) : Type 0 where
+pub record Steps {X S : Type 0} (g : counting.Ghosts X) (sink : Ghosts S) (before : Division X g) (s s' : S) (after : Division X g) : Type 0 where
   pub call : Call
   pub sees : Seen sink s s' call
-  pub made : Made (number (divisor_of before)) (number (rest_of before)) (place_of before) call
-  pub rest : call.rest' ≡ number (rest_of after)
+  pub made : Made (g.number (divisor_of before)) (g.number (rest_of before)) (place_of before) call
+  pub rest : call.rest' ≡ g.number (rest_of after)
   pub place : call.place' ≡ place_of after
   pub divisor : divisor_of after ≡ divisor_of before
-  pub sound : SoundDivision number most after
 
 -- A run of calls takes a division on and serves the sinks with it, from ss to ts. A division that can go on gives them its next
 -- digits, and one that is refused changes neither them nor itself.
-pub record Served {X S : Type 0} (number : X → ℕ) (most : ℕ) (sink : Ghosts S) (before : Division X) (ss ts : List S) (after : Division X) : Type 0 where
+pub record Served {X S : Type 0} (g : counting.Ghosts X) (sink : Ghosts S) (before : Division X g) (ss ts : List S) (after : Division X g) : Type 0 where
   pub calls : List Call
   pub serves : Serves sink calls ss ts
-  pub run : Run (number (divisor_of before)) (number (rest_of before)) (place_of before) calls
-  pub rest : last_rest (number (rest_of before)) calls ≡ number (rest_of after)
+  pub run : Run (g.number (divisor_of before)) (g.number (rest_of before)) (place_of before) calls
+  pub rest : last_rest (g.number (rest_of before)) calls ≡ g.number (rest_of after)
   pub place : last_place (place_of before) calls ≡ place_of after
   pub divisor : divisor_of after ≡ divisor_of before
-  pub sound : SoundDivision number most after
   pub leading :
-      number (rest_of before) < 10 ^ (place_of before) * number (divisor_of before)
-      → Leading (number (rest_of before)) (number (divisor_of before)) (place_of before) calls
+      g.number (rest_of before) < 10 ^ (place_of before) * g.number (divisor_of before)
+      → Leading (g.number (rest_of before)) (g.number (divisor_of before)) (place_of before) calls
   pub refused :
-      place_of before ≡ 0 → number (divisor_of before) ≤ number (rest_of before)
-      → StandsStill (number (divisor_of before)) (number (rest_of before)) calls
+      place_of before ≡ 0 → g.number (divisor_of before) ≤ g.number (rest_of before)
+      → StandsStill (g.number (divisor_of before)) (g.number (rest_of before)) calls
 
 -- What serving the sinks with n over d comes to: refused with 7 exactly when d is 0, and no sink has then changed; else the
 -- division from all its w whole digits on, whose leading digits the sinks took.
-abbrev pub ServedWhole : {X S : Type 0} → (X → ℕ) → ℕ → Ghosts S → X → X → List S → List S → Result (Division X) DivisionFault → Type 0
-ServedWhole number most sink n d ss ts (Err f) = (number d ≡ 0) × (refusal f ≡ refuses 7 []) × (ts ≡ ss)
-ServedWhole {X} number most sink n d ss ts (Ok after) =
-    (start : IntegralState X) × (start.rest ≡ n) × (start.divisor ≡ d) × Width (number n) (number d) start.place
-    × (run : Served number most sink (Whole start) ss ts after) × Leading (number n) (number d) start.place run.calls
+abbrev pub ServedWhole : {X S : Type 0} (g : counting.Ghosts X) → Ghosts S → X → X → List S → List S → Result (Division X g) DivisionFault → Type 0
+ServedWhole g sink n d ss ts (Err f) = (g.number d ≡ 0) × (refusal f ≡ refuses 7 []) × (ts ≡ ss)
+ServedWhole {X} g sink n d ss ts (Ok after) =
+    (start : IntegralState X g) × (start.rest ≡ n) × (start.divisor ≡ d) × Width (g.number n) (g.number d) start.place
+    × (run : Served g sink (Whole start) ss ts after) × Leading (g.number n) (g.number d) start.place run.calls

@@ -7,6 +7,7 @@ pub mod cut;
 mod digit;
 pub mod fault;
 pub mod fraction;
+mod integral_state;
 pub mod serve;
 pub mod sink;
 pub mod state;

@@ -1,6 +1,6 @@
 // Sinks served one after another by one division.
 ghost use Rattle.division.specs.Laws.{NoDigitLost};
-ghost use Rattle.division.specs.Serve.{SoundDivision, Steps, Served, ServedWhole};
+ghost use Rattle.division.specs.Serve.{Steps, Served, ServedWhole};
 ghost use Rattle.division.specs.declared.state.Division.TheVariants.{Fraction};
 
 use crate::fault::DivisionFault;
@@ -18,7 +18,7 @@ pub fn serve<T: GenericInteger, S: DigitSink>(
     sinks: &mut [S],
 ) -> Result<Division<T>, DivisionFault>
     ensures law { NoDigitLost }
-    ensures run { ServedWhole T.number T.greatest S.DigitSink n d sinks.old sinks.new result }
+    ensures run { ServedWhole T.CountingNumber S.DigitSink n d sinks.old sinks.new result }
 {
     serve_whole(n, d, sinks)
 }
@@ -30,7 +30,7 @@ pub fn serve_rem<T: GenericInteger, S: DigitSink>(
     sinks: &mut [S],
 ) -> Division<T>
     ensures law { NoDigitLost }
-    ensures run { Served T.number T.greatest S.DigitSink (Fraction (record { remainder = remainder; divisor = divisor })) sinks.old sinks.new result }
+    ensures run { Served T.CountingNumber S.DigitSink (Fraction (record { remainder = remainder; divisor = divisor })) sinks.old sinks.new result }
 {
     let state = DivisionState::new(remainder, divisor);
     serve_on(Division::Fraction { state }, sinks)
@@ -42,7 +42,7 @@ fn serve_whole<T: GenericInteger, S: DigitSink>(
     sinks: &mut [S],
 ) -> Result<Division<T>, DivisionFault>
     ensures law { NoDigitLost }
-    ensures run { ServedWhole T.number T.greatest S.DigitSink n d sinks.old sinks.new result }
+    ensures run { ServedWhole T.CountingNumber S.DigitSink n d sinks.old sinks.new result }
 {
     match open(n, d) {
         Ok(state) => Ok(serve_on(Division::Whole { state }, sinks)),
@@ -52,8 +52,7 @@ fn serve_whole<T: GenericInteger, S: DigitSink>(
 
 // One call on a division, wherever it stands.
 fn next<T: GenericInteger, S: DigitSink>(division: Division<T>, sink: &mut S) -> Division<T>
-    requires { SoundDivision T.number T.greatest division }
-    ensures { Steps T.number T.greatest S.DigitSink division sink.old sink.new result }
+    ensures { Steps T.CountingNumber S.DigitSink division sink.old sink.new result }
 {
     match division {
         Division::Whole { state } => divide_integral(state, sink),
@@ -70,9 +69,8 @@ fn next<T: GenericInteger, S: DigitSink>(division: Division<T>, sink: &mut S) ->
 
 // One call for each sink, in order, on the state that the one before handed back.
 fn serve_on<T: GenericInteger, S: DigitSink>(start: Division<T>, sinks: &mut [S]) -> Division<T>
-    requires { SoundDivision T.number T.greatest start }
     ensures law { NoDigitLost }
-    ensures run { Served T.number T.greatest S.DigitSink start sinks.old sinks.new result }
+    ensures run { Served T.CountingNumber S.DigitSink start sinks.old sinks.new result }
 {
     let mut division = start;
     for sink in sinks {

@@ -2,6 +2,8 @@
 ghost use Rattle.std.specs.Prelude.{◌≡◌};
 
 use crate::fault::DivisionFault;
+pub use crate::integral_state::IntegralState;
+use generic::integer::GenericInteger;
 
 // A division in its fraction.
 #[derive(Drop)]
@@ -31,31 +33,6 @@ impl<T: Copy> DivisionState<T> {
     }
 }
 
-// A division in its whole part.
-#[derive(Drop)]
-pub struct IntegralState<T> {
-    pub(crate) rest: T,
-    pub(crate) divisor: T,
-    // What the next digit counts: ten to the place less one, times the divisor.
-    pub(crate) unit: T,
-    // How many digits of the whole part are still to come.
-    pub(crate) place: u8,
-}
-
-impl<T: Copy> IntegralState<T> {
-    pub fn rest(&self) -> T
-        ensures { result ≡ self.now.rest }
-    {
-        self.rest
-    }
-
-    pub fn place(&self) -> u8
-        ensures { result ≡ self.now.place }
-    {
-        self.place
-    }
-}
-
 // The fraction after a call: the state that follows the digits taken.
 #[derive(Drop)]
 pub struct Resumed<T> {
@@ -71,7 +48,7 @@ pub struct Refused<T> {
 
 // A division wherever it stands.
 #[derive(Drop)]
-pub enum Division<T> {
+pub enum Division<T: GenericInteger> {
     // Digits of the whole part are still to come.
     Whole { state: IntegralState<T> },
     // The whole part has ended.

@@ -1,6 +1,6 @@
 // The whole part of a division.
 ghost use Rattle.std.specs.Prelude.{◌≡◌, ◌-◌, ◌*◌, ◌^◌, ◌<◌, ◌≤◌};
-ghost use Rattle.division.specs.Whole.{SoundState, Begun, Opens, Integrates, Follows};
+ghost use Rattle.division.specs.Whole.{Begun, Opens, Integrates, Follows};
 
 use crate::block::put_all;
 use crate::fault::DivisionFault;
@@ -10,7 +10,7 @@ use generic::integer::GenericInteger;
 
 // Begins the division of n by d, with all digits of its whole part to come. Refused with 7 exactly when d is 0.
 pub fn open<T: GenericInteger>(n: T, d: T) -> Result<IntegralState<T>, DivisionFault>
-    ensures { Opens T.number T.greatest n d result }
+    ensures { Opens T.CountingNumber n d result }
 {
     if d.is_zero() {
         Err(DivisionFault::ZeroDivisor)
@@ -22,7 +22,7 @@ pub fn open<T: GenericInteger>(n: T, d: T) -> Result<IntegralState<T>, DivisionF
 // The unit of the first digit is the greatest that n reaches, or the divisor itself.
 fn begun<T: GenericInteger>(n: T, d: T) -> IntegralState<T>
     requires { 0 < T.number d }
-    ensures { Begun T.number T.greatest n d result }
+    ensures { Begun T.CountingNumber n d result }
 {
     let ten = T::ten();
     let mut unit = d;
@@ -43,14 +43,12 @@ fn begun<T: GenericInteger>(n: T, d: T) -> IntegralState<T>
 }
 
 // The state after a digit, with what it leaves of the rest.
-fn after<T: GenericInteger>(rest: T, divisor: T, unit: T, place: u8) -> Division<T>
-    requires divisor { 0 < T.number divisor }
-    requires place { 0 < place }
-    requires unit { T.number unit ≡ 10 ^ (place - 1) * T.number divisor }
-    requires rest { T.number rest < T.number unit }
-    ensures { Follows T.number T.greatest rest divisor place result }
+fn after<T: GenericInteger>(state: IntegralState<T>, rest: T) -> Division<T>
+    requires { T.number rest < T.number state.unit }
+    ensures { Follows T.CountingNumber state rest result }
 {
-    if place == 1 {
+    let divisor = state.divisor;
+    if state.place == 1 {
         Division::Fraction {
             state: DivisionState {
                 remainder: rest,
@@ -58,13 +56,13 @@ fn after<T: GenericInteger>(rest: T, divisor: T, unit: T, place: u8) -> Division
             },
         }
     } else {
-        let (unit, _) = unit.div_rem(T::ten()).unwrap();
+        let (unit, _) = state.unit.div_rem(T::ten()).unwrap();
         Division::Whole {
             state: IntegralState {
                 rest,
                 divisor,
                 unit,
-                place: place - 1,
+                place: state.place - 1,
             },
         }
     }
@@ -75,8 +73,7 @@ pub fn divide_integral<T: GenericInteger, S: DigitSink>(
     state: IntegralState<T>,
     sink: &mut S,
 ) -> Division<T>
-    requires { SoundState T.number T.greatest state }
-    ensures went { Integrates T.number T.greatest S.step state (S.taken sink.old) (S.left sink.old) (S.held sink.old) (S.taken sink.new) (S.left sink.new) (S.held sink.new) result }
+    ensures went { Integrates T.CountingNumber S.step state (S.taken sink.old) (S.left sink.old) (S.held sink.old) (S.taken sink.new) (S.left sink.new) (S.held sink.new) result }
     ensures on { S.on sink.old sink.new }
 {
     // One digit or two cost less one by one.
@@ -89,9 +86,8 @@ pub fn divide_integral<T: GenericInteger, S: DigitSink>(
 
 // Offers all digits of the whole part that are still to come, from one division, to a sink that takes as many.
 fn at_once<T: GenericInteger, S: DigitSink>(state: IntegralState<T>, sink: &mut S) -> Division<T>
-    requires sound { SoundState T.number T.greatest state }
-    requires some { state.place ≤ S.left sink.old }
-    ensures went { Integrates T.number T.greatest S.step state (S.taken sink.old) (S.left sink.old) (S.held sink.old) (S.taken sink.new) (S.left sink.new) (S.held sink.new) result }
+    requires { state.place ≤ S.left sink.old }
+    ensures went { Integrates T.CountingNumber S.step state (S.taken sink.old) (S.left sink.old) (S.held sink.old) (S.taken sink.new) (S.left sink.new) (S.held sink.new) result }
     ensures on { S.on sink.old sink.new }
 {
     let (quotient, remainder) = state.rest.div_rem(state.divisor).unwrap();
@@ -106,8 +102,7 @@ fn at_once<T: GenericInteger, S: DigitSink>(state: IntegralState<T>, sink: &mut 
 
 // Offers the next digits of the whole part one by one until it ends or the sink wants no more.
 fn advance<T: GenericInteger, S: DigitSink>(first: IntegralState<T>, sink: &mut S) -> Division<T>
-    requires { SoundState T.number T.greatest first }
-    ensures went { Integrates T.number T.greatest S.step first (S.taken sink.old) (S.left sink.old) (S.held sink.old) (S.taken sink.new) (S.left sink.new) (S.held sink.new) result }
+    ensures went { Integrates T.CountingNumber S.step first (S.taken sink.old) (S.left sink.old) (S.held sink.old) (S.taken sink.new) (S.left sink.new) (S.held sink.new) result }
     ensures on { S.on sink.old sink.new }
 {
     let mut state = first;
@@ -116,8 +111,8 @@ fn advance<T: GenericInteger, S: DigitSink>(first: IntegralState<T>, sink: &mut 
         match sink.offer(digit.to_u8().unwrap()) {
             Answer::NotDigit => unreachable(),
             Answer::Full => return Division::Whole { state },
-            Answer::Enough => return after(rest, state.divisor, state.unit, state.place),
-            Answer::More => match after(rest, state.divisor, state.unit, state.place) {
+            Answer::Enough => return after(state, rest),
+            Answer::More => match after(state, rest) {
                 Division::Whole { state: next } => state = next,
                 ended => return ended,
             },

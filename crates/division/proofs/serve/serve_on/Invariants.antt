@@ -4,5 +4,5 @@ use Rattle.division.proofs.serve.serve_on.Given as goal
 
 abbrev pub invariant-loop-sink : goal.invariant-loop-sink
 invariant-loop-sink g l =
-    Served g.T.CountingNumber.number g.T.CountingNumber.greatest g.S.DigitSink l.initial.division (take l.sink-index l.initial.sink-items) (take l.sink-index l.sink-items) l.division
+    Served g.T.CountingNumber g.S.DigitSink l.initial.division (take l.sink-index l.initial.sink-items) (take l.sink-index l.sink-items) l.division
     × ((k : ℕ) (d : g.row.S.Denot) → l.sink-index ≤ k → get_or l.sink-items k d ≡ get_or l.initial.sink-items k d)

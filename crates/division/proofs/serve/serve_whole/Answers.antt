@@ -11,11 +11,11 @@ returns-in-Ok g c =
       law = c.serve_on.ensures.law;
       run = (
         c.in-Ok.state,
+        opened.0,
         opened.1,
         opened.2,
-        opened.3,
         c.serve_on.ensures.run,
-        leading _ _ _ _ opened.3.enough (rw (ap number opened.1, ap number opened.2) at run),
+        leading _ _ _ _ opened.2.enough (rw (ap number opened.0, ap number opened.1) at run),
       );
     }
 

@@ -1,9 +1,7 @@
-use Rattle.std.proofs.Common.{refl, arith}
 use Rattle.division.proofs.Places.{sound_down}
 use Rattle.division.proofs.whole.after.Goals as goal
 
-pub returns-else-place-eq1 : goal.returns-else-place-eq1
-returns-else-place-eq1 g c =
-    let divided = rw c.unwrap-unit.ensures at c.div_rem.ensures in
-    let tenth = rw c.ten.ensures at divided.1 in
-    (omega arith, refl, refl, refl, sound_down _ _ (g.T.CountingNumber.number c.args.unit) c.args.place _ _ c.requires.divisor (omega arith) c.requires.unit (g.met.T.CountingNumber.within c.args.unit) c.requires.rest tenth)
+pub invariant_of-result : goal.invariant_of-result
+invariant_of-result g c =
+    let divided = rw (c.unwrap-unit.ensures, c.ten.ensures) at c.div_rem.ensures in
+    record { sound = sound_down _ _ _ _ _ _ _ c.args.state.sound c.if-state-eq1.false c.requires divided.1 }

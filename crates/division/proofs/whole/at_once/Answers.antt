@@ -7,13 +7,13 @@ pub put_all-requires : goal.put_all-requires
 put_all-requires g c =
     let number = g.T.CountingNumber.number in
     let state = c.args.state in
-    let sound = c.requires.sound in
+    let sound = state.sound in
     let divided = rw c.unwrap.ensures at c.div_rem.ensures in
     record {
       any = sound.place;
       few = few_places state.place (number state.unit) (number state.divisor) sound.unit sound.divisor (omega (arith, sound.fits, g.met.T.CountingNumber.widest));
       number = rw (c.to_u64.ensures ∙ divided.1) (quotient_below _ _ _ _ _ sound);
-      some = c.requires.some;
+      some = c.requires;
     }
 
 pub returns : goal.returns
@@ -22,17 +22,17 @@ returns g c =
     let state = c.args.state in
     let m = number state.rest in
     let d = number state.divisor in
-    let sound = c.requires.sound in
+    let sound = state.sound in
     let divided = rw c.unwrap.ensures at c.div_rem.ensures in
     let near : m % d < d = mod-lt m sound.divisor in
     record {
       went = (
-        c.requires.some,
+        c.requires,
         refl,
         omega (arith, divided.2),
         (
           sound.place,
-          went_whole d sound.divisor g.S.DigitSink.step m state.place c.to_u64.result _ _ _ _ _ _ _ (rest_below _ _ _ _ _ sound) c.requires.some (c.to_u64.ensures ∙ divided.1) divided.2 c.put_all.ensures.takes,
+          went_whole d sound.divisor g.S.DigitSink.step m state.place c.to_u64.result _ _ _ _ _ _ _ (rest_below _ _ _ _ _ sound) c.requires (c.to_u64.ensures ∙ divided.1) divided.2 c.put_all.ensures.takes,
         ),
       );
       on = c.put_all.ensures.on;

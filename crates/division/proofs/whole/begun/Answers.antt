@@ -1,5 +1,5 @@
 use Rattle.std.proofs.Common.{◌≡◌, ◌+◌, ◌-◌, ◌*◌, ◌<◌, sym, refl, ◌∙◌, one-mul, arith}
-use Rattle.division.proofs.Places.{begun_sound, begun_width, unit_up, few_places}
+use Rattle.division.proofs.Places.{begun_width, unit_up, few_places}
 use Rattle.division.proofs.Tests.{less, not_less, past}
 use Rattle.division.proofs.whole.begun.Goals as goal
 use Rattle.division.proofs.whole.begun.Goals.{in-Some+then-is_lt, in_default}
@@ -46,7 +46,6 @@ returns g c =
           omega arith
       | in_default w ↦ let over = past _ _ (rw c.ten-ten.ensures at w.in_default.ensures) in omega arith
     ] in (
-      begun_sound n _ u _ _ c.requires inv.0 inv.1 (g.met.T.CountingNumber.within c.widen.unit) below,
       refl,
       refl,
       begun_width n _ u _ inv.0 inv.1 below inv.2,
