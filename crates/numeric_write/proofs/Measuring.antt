@@ -1,6 +1,6 @@
 -- What a package takes of a fraction, case by case.
-use Rattle.std.proofs.Common.{◌≡◌, ℕ, zero, suc, ◌+◌, ◌-◌, ◌*◌, ◌/◌, ◌%◌, ◌^◌, ◌<◌, ◌≤◌, Bool, true, false, length, ℤ, pos, negsuc, ◌-ℤ◌, sym, refl, ap, ◌∙◌, subst, ⊎_elim, mul-le-mul_right, mod-eq_of_lt, mul_assoc, div-lt_iff_lt-mul, mul-le-mul_left, one-mul, div-add-mod', le-div_iff_mul-le, mul-one, div-one, add-one, arith, w16, to_z, of_z}
-use native.Mathlib.Nat.{pow-succ', pow-le-pow_right}
+use Rattle.std.proofs.Common.{◌≡◌, ℕ, zero, suc, ◌+◌, ◌-◌, ◌*◌, ◌/◌, ◌%◌, ◌^◌, ◌<◌, ◌≤◌, Bool, true, false, length, ℤ, pos, negsuc, ◌-ℤ◌, sym, refl, ap, ◌∙◌, subst, ⊎_elim, mul-le-mul_right, mod-eq_of_lt, mul_assoc, div-lt_iff_lt-mul, mul-le-mul_left, one-mul, div-add-mod', le-div_iff_mul-le, mul-one, mul-div_cancel, div-one, add-one, arith, w16, to_z, of_z}
+use native.Mathlib.Nat.{pow-succ', pow-le-pow_right, one-le-pow, mul-mod_left}
 use Rattle.std.proofs.lemmas.Int.{ints}
 use Rattle.std.proofs.lemmas.Bool.{cases_lt}
 use Rattle.division.specs.Expansion.{coming}
@@ -47,19 +47,27 @@ sized_mixed n d s w h nz le is some =
 
 -- A WHOLE NUMBER x OF w DIGITS
 
-whole_ending : (x t : ℕ) → Ending x t → Ending (x / 1) t
-whole_ending x t e = record { front = e.front; zeros = e.zeros ∙ sym (div-one x); last = e.last }
+-- the zero groups at the end, by the number that stands before them
+pub ending_by : (x front t : ℕ) → front * 10000 ^ t ≡ x → (front % 10000 ≡ 0 → ⊥) → Ending x t
+ending_by x front t is last =
+    let h : 0 < 10000 ^ t = one-le-pow t 10000 (omega arith) in (
+      ap (λ y. y % 10000 ^ t) (sym is) ∙ mul-mod_left front (10000 ^ t),
+      λ z. last (ap (λ y. y % 10000) (sym (mul-div_cancel front h) ∙ ap (λ y. y / 10000 ^ t) is) ∙ z),
+    )
+
+pub front_is : (x t : ℕ) → Ending x t → x / 10000 ^ t * 10000 ^ t ≡ x
+front_is x t e = omega (arith, div-add-mod' x (10000 ^ t), e.0)
 
 pub whole_fits : (x w t : ℕ) → Width x 1 w → Ending x t → t ≤ fours w
-whole_fits x w t is e = omega (arith, (whole x 1 w t e.front (omega arith) is (e.zeros ∙ sym (div-one x)) e.last).0)
+whole_fits x w t is e = omega (arith, (whole x 1 w t (x / 10000 ^ t) (omega arith) is (front_is x t e ∙ sym (div-one x)) e.1).0)
 
 pub sized_whole : (x w t : ℕ) → 0 < x → Width x 1 w → Ending x t → Sized x 1 w 0 (Whole t) (fours w - t) (pos (fours w - 1))
 sized_whole x w t some is e =
-    let m = whole x 1 w t e.front (omega arith) is (e.zeros ∙ sym (div-one x)) e.last in
+    let m = whole x 1 w t (x / 10000 ^ t) (omega arith) is (front_is x t e ∙ sym (div-one x)) e.1 in
     record {
       groups_are = omega (arith, m.0);
       weight_is = sym m.1;
-      shaped = (omega arith, refl, omega (arith, m.0), m.2, whole_ending x t e);
+      shaped = (omega arith, refl, omega (arith, m.0), m.2, subst (λ y. Ending y t) (sym (div-one x)) e);
     }
 
 -- the whole part as a number of its own
@@ -73,9 +81,7 @@ width_quotient n d w h is = record {
 shaped_quotient : (n d w g : ℕ) (shape : Shape) → d ≤ n → 0 < n / d → Shaped (n / d) 1 w 0 g shape → Shaped n d w 0 g shape
 shaped_quotient n d w g (Below passed) le some s = absurd (omega (arith, s.0))
 shaped_quotient n d w g Mixed le some s = absurd (omega (arith, s.1))
-shaped_quotient n d w g (Whole t) le some s =
-    let e = s.4 in
-    (le, refl, s.2, s.3, record { front = e.front; zeros = e.zeros ∙ div-one (n / d); last = e.last })
+shaped_quotient n d w g (Whole t) le some s = (le, refl, s.2, s.3, subst (λ y. Ending y t) (div-one (n / d)) s.4)
 
 pub sized_quotient : (n d w g : ℕ) (shape : Shape) (weight : ℤ) → d ≤ n → 0 < n / d → Sized (n / d) 1 w 0 shape g weight → Sized n d w 0 shape g weight
 sized_quotient n d w g shape weight le some s =

@@ -1,16 +1,20 @@
 -- The groups that stand in a buffer are those of the package.
-use Rattle.std.proofs.Common.{◌≡◌, ℕ, zero, suc, ◌+◌, ◌-◌, ◌*◌, ◌/◌, ◌%◌, ◌^◌, ◌<◌, ◌≤◌, min, List, sym, refl, ap, ◌∙◌, subst, ⊎_elim, mul-le-mul_right, mod-eq_of_lt, mul_assoc, mul_comm, one-mul, le-div_iff_mul-le, mul-one, mul-div_cancel, arith, pow-add}
+use Rattle.std.proofs.Common.{◌≡◌, ℕ, zero, suc, ◌+◌, ◌-◌, ◌*◌, ◌/◌, ◌%◌, ◌^◌, ◌<◌, ◌≤◌, min, List, sym, refl, ap, ◌∙◌, subst, ⊎_elim, mul-le-mul_right, mod-eq_of_lt, mul_assoc, mul_comm, one-mul, le-div_iff_mul-le, mul-one, mul-div_cancel, arith, rules, pow-add, Ok, Err, Result, IsOk}
 use native.Mathlib.Nat.{one-le-pow, div-div-eq-div-mul}
 use Rattle.std.specs.Int.Digits.{number_from_digits}
 use Rattle.std.specs.List.{flat_map}
 use Rattle.std.proofs.lemmas.Bool.{cases_lt}
+use Rattle.generic.specs.declared.counting.CountingNumber.{Ghosts}
 use Rattle.division.specs.Digits.{fed, shifted}
 use Rattle.division.specs.Expansion.{digits, rest, coming}
 use Rattle.division.specs.Faults.{Cause}
 use Rattle.division.specs.Whole.{Width, Integrates}
-use Rattle.division.specs.declared.state.Integral.{Integral}
-use Rattle.division.specs.declared.state.Integral.TheVariants.{Paused, Ended}
-use Rattle.division.specs.declared.state.IntegralState.{IntegralState}
+use Rattle.division.specs.declared.state.Division.{Division}
+use Rattle.division.specs.declared.state.Division.TheVariants.{Whole, Fraction}
+use Rattle.division.specs.declared.integral_state.IntegralState.{IntegralState}
+use Rattle.division.specs.Resume.{Resumes}
+use Rattle.division.specs.declared.state.Resumed.{Resumed}
+use Rattle.division.specs.declared.state.Refused.{Refused}
 use Rattle.division.specs.declared.fault.DivisionFault.{DivisionFault}
 use Rattle.division.specs.declared.fault.DivisionFault.TheVariants.{ZeroDivisor, RemainderNotBelow}
 use Rattle.numeric.specs.Buffer.{placed}
@@ -114,17 +118,21 @@ ended_number b s t after Q z f k on same none start first all some aligned is la
     put_number b after Q z (groups.held t) t.places some (ends b (laid_first b s t on same none)) (end_places s t f k on start first all ∙ aligned) is last
 
 -- A division whose remainder is below its divisor is not refused.
-pub not_refused : (f : DivisionFault) (d m : ℕ) → m < d → Cause f d m → ⊥
+not_refused : (f : DivisionFault) (d m : ℕ) → m < d → Cause f d m → ⊥
 not_refused ZeroDivisor d m lt c = omega arith
 not_refused RemainderNotBelow d m lt c = omega (arith, c.1)
+
+pub accepted : {X : Type 0} (number : X → ℕ) (step : ℕ → ℕ → ℕ) (m d : X) (t l h t' l' h' : ℕ) (r : Result (Resumed X) (Refused X)) → number m < number d → Resumes number step m d t l h t' l' h' r → IsOk r
+accepted number step m d t l h t' l' h' (Ok a) lt i = search rules
+accepted number step m d t l h t' l' h' (Err a) lt i = absurd (not_refused a.fault (number d) (number m) lt i.2.1)
 
 -- THE WHOLE PART
 
 -- what going on with the whole part makes of a sink, whether it is paused or ends
-pub integrated : {X : Type 0} (number' : X → ℕ) (most : ℕ) (step : ℕ → ℕ → ℕ) (s : IntegralState X) (t l h t' l' h' : ℕ) (a : Integral X) → Integrates number' most step s t l h t' l' h' a
-    → (t' ≡ t + min l s.place) × (h' ≡ fed step h (digits (number' s.divisor) (number' s.rest) s.place (min l s.place)))
-integrated number' most step s t l h t' l' h' (Paused a) i = (i.3.1.taken, i.3.1.held)
-integrated number' most step s t l h t' l' h' (Ended a) i = (i.3.1.taken, i.3.1.held)
+pub integrated : {X : Type 0} (t : Ghosts X) (step : ℕ → ℕ → ℕ) (s : IntegralState X t) (k l h k' l' h' : ℕ) (a : Division X t) → Integrates t step s k l h k' l' h' a
+    → (k' ≡ k + min l s.place) × (h' ≡ fed step h (digits (t.number s.divisor) (t.number s.rest) s.place (min l s.place)))
+integrated t step s k l h k' l' h' (Whole a) i = (i.2.1.taken, i.2.1.held)
+integrated t step s k l h k' l' h' (Fraction a) i = (i.3.1.taken, i.3.1.held)
 
 -- without the zeros at its end a whole number is its front
 pub held_front : (n d w z front : ℕ) → 0 < d → n < 10 ^ w * d → 4 * z < w → front * 10000 ^ z ≡ n / d → fed shifted 0 (digits d n w (w - 4 * z)) ≡ front

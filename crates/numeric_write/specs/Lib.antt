@@ -1,4 +1,6 @@
 pub mod Laid
 pub mod Measure
+pub mod Plans
+pub mod Props
 pub mod Sink
 pub mod States

@@ -2,43 +2,33 @@
 ghost use Rattle.std.specs.Prelude.{◌≡◌, ℕ, suc, ◌+◌, ◌-◌, ◌/◌, ◌%◌, ◌<◌, ◌≤◌, pos, negsuc};
 ghost use Rattle.division.specs.Expansion.{coming};
 ghost use Rattle.division.specs.Whole.{Width};
+ghost use Rattle.numeric.specs.Cut.{scale_of};
 ghost use Rattle.numeric.specs.Package.{fours};
-ghost use Rattle.numeric_write.specs.Measure.{Measured, Sized, Ending};
+ghost use Rattle.numeric_write.specs.Measure.{Sized, SizedBy, Ending};
 ghost use Rattle.numeric_write.specs.declared.shape.Shape.TheVariants.{Mixed};
 
+use crate::extent::Extent;
 use crate::shape::Shape;
 use division::counter::Counter;
 use division::fraction::divide_rem;
 use division::sink::DigitSink;
 use division::whole::open;
-use generic::counting::CountingNumber;
+use fraction::ratio::Ratio;
 use generic::integer::GenericInteger;
-
-#[derive(Clone, Copy)]
-pub(crate) struct Extent {
-    pub(crate) shape: Shape,
-    pub(crate) scale: u16,
-    pub(crate) groups: u16,
-    pub(crate) weight: i16,
-}
 
 // No expansion that ends is longer, since no denominator passes 2^64.
 const LONGEST_EXPANSION: u16 = 64;
 
-// Of n over d, of whose whole part `places` digits come.
-pub(crate) fn measure<T: GenericInteger + CountingNumber>(
-    n: T,
-    d: T,
-    places: u8,
-    precision: u16,
-) -> Extent
-    requires n { 0 < T.number n }
-    requires d { 0 < T.number d }
-    requires places { Width (T.number n) (T.number d) places }
+// Of a fraction that is not 0, of whose whole part `places` digits come.
+pub(crate) fn measure<T: GenericInteger>(ratio: Ratio<T>, places: u8, precision: u16) -> Extent
+    requires some { 0 < T.number ratio.numer }
+    requires places { Width (T.number ratio.numer) (T.number ratio.denom) places }
     requires precision { (0 < precision) × (precision ≤ 16383) }
-    ensures { Measured (T.number n) (T.number d) precision places result.shape result.scale result.groups result.weight }
+    ensures scale { result.scale ≡ scale_of (T.number ratio.numer) (T.number ratio.denom) precision }
+    ensures sized { SizedBy (T.number ratio.numer) (T.number ratio.denom) places result }
 {
-    let (whole, remainder) = divided(n, d);
+    let (n, d) = (ratio.numer(), ratio.denom());
+    let (whole, remainder) = n.div_rem(d).unwrap();
     let scale = fraction_length(remainder, d, precision);
     if whole.is_zero() {
         return below_one(n, d, scale);
@@ -49,51 +39,31 @@ pub(crate) fn measure<T: GenericInteger + CountingNumber>(
     mixed(places, scale)
 }
 
-// The quotient and the remainder.
-fn divided<T: GenericInteger + CountingNumber>(a: T, by: T) -> (T, T)
-    requires { 0 < T.number by }
-    ensures { (T.number result.0 ≡ T.number a / T.number by) × (T.number result.1 ≡ T.number a % T.number by) }
-{
-    match a.div_rem(by) {
-        Some(pair) => pair,
-        None => unreachable(),
-    }
-}
-
 // How many fractional digits come, if at most `most` are wanted.
-fn fraction_length<T: GenericInteger + CountingNumber>(remainder: T, divisor: T, most: u16) -> u16
+fn fraction_length<T: GenericInteger>(remainder: T, divisor: T, most: u16) -> u16
     requires { T.number remainder < T.number divisor }
     ensures { result ≡ coming (T.number divisor) (T.number remainder) most }
 {
     let mut counter = Counter::new(most.min(LONGEST_EXPANSION));
-    match divide_rem(remainder, divisor, &mut counter) {
-        Ok(resumed) => {
-            if resumed.state.remainder().is_zero() {
-                counter.taken()
-            } else {
-                most
-            }
-        }
-        Err(_) => unreachable(),
+    let resumed = divide_rem(remainder, divisor, &mut counter).unwrap();
+    if resumed.state.remainder().is_zero() {
+        counter.taken()
+    } else {
+        most
     }
 }
 
 // How many zeros stand before the first other digit of a fraction below 1: one less than the whole digits of (d - 1) over n.
-fn leading_zeros<T: GenericInteger + CountingNumber>(n: T, d: T) -> u8
+fn leading_zeros<T: GenericInteger>(n: T, d: T) -> u8
     requires { (0 < T.number n) × (T.number n < T.number d) }
     ensures { Width (T.number d - 1) (T.number n) (suc result) }
 {
-    match d.checked_sub(T::one()) {
-        Some(below) => match open(below, n) {
-            Ok(state) => state.place() - 1,
-            Err(_) => unreachable(),
-        },
-        None => unreachable(),
-    }
+    let below = d.checked_sub(T::one()).unwrap();
+    open(below, n).unwrap().place() - 1
 }
 
 // How many zero groups a whole number ends with.
-fn trailing_zero_groups<T: GenericInteger + CountingNumber>(whole: T) -> u8
+fn trailing_zero_groups<T: GenericInteger>(whole: T) -> u8
     requires { 0 < T.number whole }
     ensures { Ending (T.number whole) result }
 {
@@ -101,7 +71,7 @@ fn trailing_zero_groups<T: GenericInteger + CountingNumber>(whole: T) -> u8
     let mut rest = whole;
     let mut zeros = 0;
     'groups: loop {
-        let (above, group) = divided(rest, base);
+        let (above, group) = rest.div_rem(base).unwrap();
         if !group.is_zero() {
             break;
         }
@@ -128,7 +98,7 @@ fn below_weight(left_out: u16) -> i16
 }
 
 // A fraction below 1.
-fn below_one<T: GenericInteger + CountingNumber>(n: T, d: T, scale: u16) -> Extent
+fn below_one<T: GenericInteger>(n: T, d: T, scale: u16) -> Extent
     requires fraction { (0 < T.number n) × (T.number n < T.number d) }
     requires scale { (0 < scale) × (scale ≤ 16383) }
     ensures { (result.scale ≡ scale) × ((w : ℕ) → Sized (T.number n) (T.number d) w scale result.shape result.groups result.weight) }
@@ -169,7 +139,7 @@ fn mixed(places: u8, scale: u16) -> Extent
 }
 
 // A whole number of so many digits.
-fn whole_number<T: GenericInteger + CountingNumber>(whole: T, places: u8) -> Extent
+fn whole_number<T: GenericInteger>(whole: T, places: u8) -> Extent
     requires { (0 < T.number whole) × (Width (T.number whole) 1 places) }
     ensures { (result.scale ≡ 0) × Sized (T.number whole) 1 places 0 result.shape result.groups result.weight }
 {

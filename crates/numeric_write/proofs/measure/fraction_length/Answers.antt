@@ -8,7 +8,7 @@ pub returns-then-is_zero : goal.returns-then-is_zero
 returns-then-is_zero g c =
     let r : ℕ = g.T.CountingNumber.number c.args.remainder in
     let d : ℕ = g.T.CountingNumber.number c.args.divisor in
-    let went = c.in-Ok.ensures.resumes.1.2 in
+    let went = (rw c.unwrap-resumed.ensures at c.divide_rem.ensures.resumes).1.2 in
     let left = c.new-counter.ensures.left ∙ c.min.ensures in
     let narrow : d < 2 ^ 64 = omega (arith, g.met.T.CountingNumber.within c.args.divisor, g.met.T.CountingNumber.widest) in
     let ended : rest d r 0 (coming d r (min c.args.most 64)) ≡ 0 =
@@ -19,7 +19,7 @@ pub returns-else-is_zero : goal.returns-else-is_zero
 returns-else-is_zero g c =
     let r : ℕ = g.T.CountingNumber.number c.args.remainder in
     let d : ℕ = g.T.CountingNumber.number c.args.divisor in
-    let went = c.in-Ok.ensures.resumes.1.2 in
+    let went = (rw c.unwrap-resumed.ensures at c.divide_rem.ensures.resumes).1.2 in
     let left = c.new-counter.ensures.left ∙ c.min.ensures in
     let narrow : d < 2 ^ 64 = omega (arith, g.met.T.CountingNumber.within c.args.divisor, g.met.T.CountingNumber.widest) in
     let on : rest d r 0 (coming d r (min c.args.most 64)) ≡ 0 → ⊥ =

@@ -1,5 +1,5 @@
-use Rattle.std.proofs.Common.{◌≡◌, ℕ, ◌+◌, ◌*◌, ◌/◌, ◌%◌, ◌^◌, ◌<◌, sym, ap, ◌∙◌, arith}
-use Rattle.numeric_write.proofs.Measuring.{few_zeros, zeros_more, apart}
+use Rattle.std.proofs.Common.{◌≡◌, ℕ, ◌+◌, ◌*◌, ◌%◌, ◌^◌, ◌<◌, sym, ap, ◌∙◌, arith}
+use Rattle.numeric_write.proofs.Measuring.{few_zeros, zeros_more, ending_by, apart}
 use Rattle.numeric_write.proofs.measure.trailing_zero_groups.Goals as goal
 
 pub overflow_add-zeros : goal.overflow_add-zeros
@@ -13,18 +13,12 @@ pub groups-preserved : goal.groups-preserved
 groups-preserved g c =
     let x : ℕ = g.T.CountingNumber.number c.args.whole in
     let r : ℕ = g.T.CountingNumber.number c.groups.rest in
-    let base : g.T.CountingNumber.number c.from_u16-base.result ≡ 10000 = c.from_u16-base.ensures in
-    let above : g.T.CountingNumber.number c.divided-above.result.0 ≡ r / 10000 = c.divided-above.ensures.0 ∙ ap (λ b. r / b) base in
-    let last : r % 10000 ≡ 0 = sym (c.divided-above.ensures.1 ∙ ap (λ b. r % b) base) ∙ c.is_zero.ensures.0 c.if-not-is_zero.false in
-    (omega (arith, c.groups.invariant.0), ap (λ k. k * 10000 ^ (c.groups.zeros + 1)) above ∙ zeros_more x r c.groups.zeros last c.groups.invariant.1)
+    let divided = rw (c.from_u16-base.ensures) at (rw c.unwrap-above.ensures at c.div_rem.ensures) in
+    let last : r % 10000 ≡ 0 = sym divided.2 ∙ c.is_zero.ensures.0 c.if-not-is_zero.false in
+    (omega (arith, c.groups.invariant.0, divided.1), ap (λ k. k * 10000 ^ (c.groups.zeros + 1)) divided.1 ∙ zeros_more x r c.groups.zeros last c.groups.invariant.1)
 
 pub returns : goal.returns
 returns g c =
     let r : ℕ = g.T.CountingNumber.number c.groups.rest in
-    let base : g.T.CountingNumber.number c.from_u16-base.result ≡ 10000 = c.from_u16-base.ensures in
-    let group : g.T.CountingNumber.number c.divided-above.result.1 ≡ r % 10000 = c.divided-above.ensures.1 ∙ ap (λ b. r % b) base in
-    record {
-      front = r;
-      zeros = c.groups.invariant.1;
-      last = λ z. apart c.is_zero.result (c.is_zero.ensures.1 (group ∙ z)) c.if-not-is_zero.true;
-    }
+    let divided = rw (c.from_u16-base.ensures) at (rw c.unwrap-above.ensures at c.div_rem.ensures) in
+    ending_by _ r _ c.groups.invariant.1 (λ z. apart c.is_zero.result (c.is_zero.ensures.1 (divided.2 ∙ z)) c.if-not-is_zero.true)
