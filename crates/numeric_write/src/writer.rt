@@ -1,8 +1,10 @@
 // A fraction as a package in the caller's buffer.
-ghost use Rattle.std.specs.Prelude.{◌≡◌};
+ghost use Rattle.std.specs.Prelude.{◌≡◌, ◌<◌, ◌≤◌, [], ◌∷◌, OnOk, OnErr, IfErr};
+ghost use Rattle.generic.specs.Refusals.{refuses};
 ghost use Rattle.fraction.specs.Meaning.{meant};
 ghost use Rattle.numeric.specs.Buffer.{Outcome, free};
 ghost use Rattle.numeric.specs.Faithful.{WritingFaithful};
+ghost use Rattle.numeric.specs.Faults.{refusal};
 ghost use Rattle.numeric.specs.Package.{precision_in_force, written};
 
 use crate::plan::Plan;
@@ -25,9 +27,7 @@ pub fn fraction_to_sql_buf<T: GenericInteger>(
     let plan = Plan::new(source, in_force(precision));
     let start = *used;
     let needed = plan.bytes_needed();
-    if free_bytes(buffer, start) < needed {
-        return Err(PackageFault::NoSpace(needed));
-    }
+    check_room(buffer, start, needed)?;
     plan.put(&mut buffer[start..]);
     *used = start + needed;
     Ok(())
@@ -52,9 +52,14 @@ fn in_force(precision: usize) -> u16
     precision.min(PG_MAX_PRECISION).max(1) as u16
 }
 
-// How many bytes are free behind the used ones.
-fn free_bytes(buffer: &[u8], used: usize) -> usize
-    ensures { result ≡ free buffer.now used }
+// Refused where the bytes needed exceed those that are free behind the used ones.
+fn check_room(buffer: &[u8], used: usize, needed: usize) -> Result<(), PackageFault>
+    ensures fits { OnOk result (needed ≤ free buffer.now used) }
+    ensures tight { OnErr result (free buffer.now used < needed) }
+    ensures fault { IfErr result (λ f. refusal f ≡ refuses 9 (needed ∷ [])) }
 {
-    buffer.len().saturating_sub(used)
+    if buffer.len().saturating_sub(used) < needed {
+        return Err(PackageFault::NoSpace(needed));
+    }
+    Ok(())
 }
