@@ -35,14 +35,14 @@ begun_width n d u p some eu below no_zero =
 
 -- a digit of the whole part
 pub digit_small : (m d u p most : ℕ) → Sound m d u p most → m / u < 10
-digit_small m d u p most s = (div-lt_iff_lt-mul {k = u} {x = m} {y = 10} (omega (arith, s.rest))).1 s.rest
+digit_small m d u p most s =
+    let up = unit_up p d s.place in
+    let below : m < 10 * u = omega (arith, s.unit, s.rest) in
+    (div-lt_iff_lt-mul {k = u} {x = m} {y = 10} (omega arith)).1 below
 
--- the rest is below the unit of the place above, and so is the quotient below the power of ten
-pub rest_below : (m d u p most : ℕ) → Sound m d u p most → m < 10 ^ p * d
-rest_below m d u p most s = rw (sym (unit_up p d s.place), sym s.unit) s.rest
-
+-- the quotient is below the power of ten
 pub quotient_below : (m d u p most : ℕ) → Sound m d u p most → m / d < 10 ^ p
-quotient_below m d u p most s = (div-lt_iff_lt-mul {k = d} {x = m} {y = 10 ^ p} s.divisor).1 (rest_below m d u p most s)
+quotient_below m d u p most s = (div-lt_iff_lt-mul {k = d} {x = m} {y = 10 ^ p} s.divisor).1 s.rest
 
 -- the unit of the place below
 pub sound_down : (m d u p most m' u' : ℕ) → Sound m d u p most → ¬ (p ≡ 1) → m' < u → u' ≡ u / 10 → Sound m' d u' (p - 1) most

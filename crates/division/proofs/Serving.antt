@@ -1,8 +1,8 @@
 -- One call more on a division that serves sinks.
-use Rattle.std.proofs.Common.{◌≡◌, ℕ, List, [], ◌∷◌, ◌++◌, sym, refl, ap, ◌∙◌, subst}
+use Rattle.std.proofs.Common.{◌≡◌, ℕ, ◌*◌, ◌^◌, ◌<◌, List, [], ◌∷◌, ◌++◌, sym, refl, ap, ◌∙◌, subst, one-mul, arith}
 use Rattle.generic.specs.declared.counting.CountingNumber as counting
 use Rattle.division.specs.Runs.{Kind, whole, Call, Made, Run, seen, last_rest, last_place}
-use Rattle.division.specs.Serve.{divisor_of, rest_of, place_of, Seen, Serves, Steps, Served}
+use Rattle.division.specs.Serve.{divisor_of, rest_of, place_of, CanGoOn, Seen, Serves, Steps, Served}
 use Rattle.division.specs.declared.integral_state.IntegralState.{IntegralState}
 use Rattle.division.specs.declared.sink.DigitSink.{Ghosts}
 use Rattle.division.specs.Whole.{Integrates}
@@ -28,6 +28,11 @@ last_place_more : (p : ℕ) (cs : List Call) (c : Call) → last_place p (cs ++ 
 last_place_more p [] c = refl
 last_place_more p (c' ∷ cs) c = last_place_more c'.place' cs c
 
+-- a division that can go on stands for a rest below its whole
+small : {X : Type 0} (g : counting.Ghosts X) (d : Division X g) → CanGoOn d → g.number (rest_of d) < 10 ^ place_of d * g.number (divisor_of d)
+small g (Whole s) can = s.sound.rest
+small g (Fraction s) can = omega (arith, one-mul (g.number s.divisor))
+
 -- what the law says of a run of calls belongs to it
 served : {X S : Type 0} (g : counting.Ghosts X) (sink : Ghosts S) (start after : Division X g) (ss ts : List S) (cs : List Call) → Serves sink cs ss ts → Run (g.number (divisor_of start)) (g.number (rest_of start)) (place_of start) cs → last_rest (g.number (rest_of start)) cs ≡ g.number (rest_of after) → last_place (place_of start) cs ≡ place_of after → divisor_of after ≡ divisor_of start → Served g sink start ss ts after
 served g sink start after ss ts cs serves run rest place divisor =
@@ -38,7 +43,7 @@ served g sink start after ss ts cs serves run rest place divisor =
       rest = rest;
       place = place;
       divisor = divisor;
-      leading = λ small. leading (g.number (rest_of start)) (g.number (divisor_of start)) (place_of start) cs small run;
+      leading = λ can. leading (g.number (rest_of start)) (g.number (divisor_of start)) (place_of start) cs (small g start can) run;
       refused = λ none large. (one_expansion (g.number (divisor_of start)) (g.number (rest_of start)) (place_of start) cs run).1 none large;
     }
 

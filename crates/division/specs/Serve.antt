@@ -1,11 +1,11 @@
 -- A division wherever it stands, and sinks that it serves one after another.
-use Rattle.std.specs.Prelude.{◌≡◌, ℕ, ◌*◌, ◌^◌, ◌<◌, ◌≤◌, List, [], ◌∷◌, Ok, Err, Result}
+use Rattle.std.specs.Prelude.{◌≡◌, ℕ, ◌<◌, ◌≤◌, List, [], ◌∷◌, Ok, Err, Result}
 use Rattle.generic.specs.Refusals.{refuses}
 use Rattle.generic.specs.declared.counting.CountingNumber as counting
 use Rattle.division.specs.Faults.{refusal}
 use Rattle.division.specs.Laws.{Leading, StandsStill}
 use Rattle.division.specs.Runs.{Call, Made, Run, last_rest, last_place}
-use Rattle.division.specs.Whole.{Width}
+use Rattle.division.specs.Whole.{Begun}
 use Rattle.division.specs.declared.fault.DivisionFault.{DivisionFault}
 use Rattle.division.specs.declared.integral_state.IntegralState.{IntegralState}
 use Rattle.division.specs.declared.sink.DigitSink.{Ghosts}
@@ -24,6 +24,11 @@ rest_of (Fraction s) = s.remainder
 abbrev pub place_of : {X : Type 0} {g : counting.Ghosts X} → Division X g → ℕ
 place_of (Whole s) = s.place
 place_of (Fraction s) = 0
+
+-- In its whole part it can always go on, and in its fraction where the remainder is below the divisor.
+abbrev pub CanGoOn : {X : Type 0} {g : counting.Ghosts X} → Division X g → Type 0
+CanGoOn (Whole s) = Unit {0}
+CanGoOn {g} (Fraction s) = g.number s.remainder < g.number s.divisor
 
 -- A call took the sink from s to s'.
 pub record Seen {S : Type 0} (sink : Ghosts S) (s s' : S) (c : Call) : Type 0 where
@@ -61,16 +66,19 @@ pub record Served {X S : Type 0} (g : counting.Ghosts X) (sink : Ghosts S) (befo
   pub place : last_place (place_of before) calls ≡ place_of after
   pub divisor : divisor_of after ≡ divisor_of before
   pub leading :
-      g.number (rest_of before) < 10 ^ (place_of before) * g.number (divisor_of before)
+      CanGoOn before
       → Leading (g.number (rest_of before)) (g.number (divisor_of before)) (place_of before) calls
   pub refused :
       place_of before ≡ 0 → g.number (divisor_of before) ≤ g.number (rest_of before)
       → StandsStill (g.number (divisor_of before)) (g.number (rest_of before)) calls
 
--- What serving the sinks with n over d comes to: refused with 7 exactly when d is 0, and no sink has then changed; else the
--- division from all its w whole digits on, whose leading digits the sinks took.
+-- The sinks are served with n over d from all its whole digits on, and so took its leading digits.
+pub record Opened {X S : Type 0} (g : counting.Ghosts X) (sink : Ghosts S) (n d : X) (ss ts : List S) (after : Division X g) : Type 0 where
+  pub start : IntegralState X g
+  pub begun : Begun g n d start
+  pub run : Served g sink (Whole start) ss ts after
+
+-- What serving the sinks with n over d comes to: refused with 7 exactly when d is 0, and no sink has then changed.
 abbrev pub ServedWhole : {X S : Type 0} (g : counting.Ghosts X) → Ghosts S → X → X → List S → List S → Result (Division X g) DivisionFault → Type 0
+ServedWhole g sink n d ss ts (Ok after) = Opened g sink n d ss ts after
 ServedWhole g sink n d ss ts (Err f) = (g.number d ≡ 0) × (refusal f ≡ refuses 7 []) × (ts ≡ ss)
-ServedWhole {X} g sink n d ss ts (Ok after) =
-    (start : IntegralState X g) × (start.rest ≡ n) × (start.divisor ≡ d) × Width (g.number n) (g.number d) start.place
-    × (run : Served g sink (Whole start) ss ts after) × Leading (g.number n) (g.number d) start.place run.calls

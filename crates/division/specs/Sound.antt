@@ -8,4 +8,4 @@ pub record Sound (m d u p most : ℕ) : Type 0 where
   pub place : 0 < p
   pub unit : u ≡ 10 ^ (p - 1) * d
   pub fits : u ≤ most
-  pub rest : m < 10 * u
+  pub rest : m < 10 ^ p * d

@@ -16,8 +16,10 @@ pub record Width (n d w : ℕ) : Type 0 where
   pub no_zero : 1 < w → 10 ^ (w - 1) * d ≤ n
 
 -- The state that n over d begins with: all its whole digits are to come.
-abbrev pub Begun : {X : Type 0} (g : Ghosts X) → X → X → IntegralState X g → Type 0
-Begun g n d s = (s.rest ≡ n) × (s.divisor ≡ d) × Width (g.number n) (g.number d) s.place
+pub record Begun {X : Type 0} (g : Ghosts X) (n d : X) (s : IntegralState X g) : Type 0 where
+  pub rest : s.rest ≡ n
+  pub divisor : s.divisor ≡ d
+  pub width : Width (g.number n) (g.number d) s.place
 
 -- Opening n over d is refused with 7 exactly when d is 0.
 abbrev pub Opens : {X : Type 0} (g : Ghosts X) → X → X → Result (IntegralState X g) DivisionFault → Type 0

@@ -1,4 +1,4 @@
-// The next digit of a fraction.
+// The next digits of a fraction.
 ghost use Rattle.std.specs.Prelude.{◌≡◌, ◌*◌, ◌/◌, ◌%◌, ◌<◌};
 
 use generic::integer::GenericInteger;
@@ -18,7 +18,15 @@ pub(crate) fn digit_step<T: GenericInteger>(r: T, d: T) -> (u8, T)
     }
 }
 
-// The same where ten times r passes the type's greatest: a trial digit, r over the tenth of d, is lowered until it fits.
+// The next four digits of the fraction, as one number, and the remainder after them.
+pub(crate) fn four_step<T: GenericInteger>(r: T, d: T) -> (u16, T)
+    requires { T.number r < T.number d }
+    ensures { (result.0 ≡ 10_000 * T.number r / T.number d) × (T.number result.1 ≡ 10_000 * T.number r % T.number d) }
+{
+    r.scaled(10_000, d).unwrap()
+}
+
+// The next digit where ten times r passes the type's greatest: a trial digit, r over the tenth of d, is lowered until it fits.
 fn corrected_step<T: GenericInteger>(r: T, d: T) -> (u8, T)
     requires { (T.number r < T.number d) × (T.greatest < 10 * T.number r) }
     ensures exact { (result.0 ≡ 10 * T.number r / T.number d) × (T.number result.1 ≡ 10 * T.number r % T.number d) }

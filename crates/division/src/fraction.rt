@@ -5,7 +5,7 @@ ghost use Rattle.division.specs.Expansion.{Went, coming};
 ghost use Rattle.division.specs.Resume.{Resumes};
 
 use crate::block::put_four;
-use crate::digit::digit_step;
+use crate::digit::{digit_step, four_step};
 use crate::fault::DivisionFault;
 use crate::sink::{Answer, DigitSink};
 use crate::state::{DivisionState, Refused, Resumed};
@@ -18,7 +18,7 @@ fn offer_four<T: GenericInteger, S: DigitSink>(remainder: T, divisor: T, sink: &
     ensures block { Block T.number S.step (T.number divisor) (T.number remainder) (S.taken sink.old) (S.left sink.old) (S.held sink.old) (S.taken sink.new) (S.left sink.new) (S.held sink.new) result }
     ensures on { S.on sink.old sink.new }
 {
-    let (four, after) = remainder.scaled(10_000, divisor).unwrap();
+    let (four, after) = four_step(remainder, divisor);
     if after.is_zero() {
         return None;
     }

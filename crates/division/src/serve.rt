@@ -12,6 +12,7 @@ use generic::integer::GenericInteger;
 
 // Serves the sinks, one after another, with the digits of n over d: one call for each, on the state that the one before handed
 // back. Refused with 7 exactly when d is 0. No run of calls loses a digit, and neither does this one.
+#[tactic(auto, using(crate::proofs::Lost::no_digit_lost))]
 pub fn serve<T: GenericInteger, S: DigitSink>(
     n: T,
     d: T,
@@ -20,7 +21,8 @@ pub fn serve<T: GenericInteger, S: DigitSink>(
     ensures law { NoDigitLost }
     ensures run { ServedWhole T.CountingNumber S.DigitSink n d sinks.old sinks.new result }
 {
-    serve_whole(n, d, sinks)
+    let state = open(n, d)?;
+    Ok(serve_on(Division::Whole { state }, sinks))
 }
 
 // The same with a division begun without a whole part. Where 7 or 8 refuses its calls, no sink and no number changes.
@@ -34,20 +36,6 @@ pub fn serve_rem<T: GenericInteger, S: DigitSink>(
 {
     let state = DivisionState::new(remainder, divisor);
     serve_on(Division::Fraction { state }, sinks)
-}
-
-fn serve_whole<T: GenericInteger, S: DigitSink>(
-    n: T,
-    d: T,
-    sinks: &mut [S],
-) -> Result<Division<T>, DivisionFault>
-    ensures law { NoDigitLost }
-    ensures run { ServedWhole T.CountingNumber S.DigitSink n d sinks.old sinks.new result }
-{
-    match open(n, d) {
-        Ok(state) => Ok(serve_on(Division::Whole { state }, sinks)),
-        Err(fault) => Err(fault),
-    }
 }
 
 // One call on a division, wherever it stands.

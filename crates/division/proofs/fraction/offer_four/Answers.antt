@@ -9,20 +9,20 @@ put_four-requires g c =
     let r = number c.args.remainder in
     let d = number c.args.divisor in
     let small : 10000 * r / d < 10000 = (div-lt_iff_lt-mul {k = d} {x = 10000 * r} {y = 10000} (omega arith)).1 (omega arith) in
-    record { number = omega (arith, (rw c.unwrap-four.ensures at c.scaled.ensures).1); some = c.requires.some }
+    record { number = omega (arith, c.four_step-four.ensures.0); some = c.requires.some }
 
 pub returns : goal.returns
 returns g c =
     let number = g.T.CountingNumber.number in
     let r = number c.args.remainder in
     let d = number c.args.divisor in
-    let shared = rw c.unwrap-four.ensures at c.scaled.ensures in
+    let shared = c.four_step-four.ensures in
     let near : 10000 * r % d < d = mod-lt (10000 * r) (omega arith) in
     record {
       block = (
         not_zero _ c.if-is_zero.ensures.1,
         omega arith,
-        went_four g.S.DigitSink.step d r c.unwrap-four.result.0 _ _ _ _ _ _ _ c.requires.below shared.1 shared.2 c.put_four.ensures.takes,
+        went_four g.S.DigitSink.step d r c.four_step-four.result.0 _ _ _ _ _ _ _ c.requires.below shared.0 shared.1 c.put_four.ensures.takes,
       );
       on = c.put_four.ensures.on;
     }

@@ -1,6 +1,6 @@
 use Rattle.std.proofs.Common.{◌%◌, ◌<◌, refl, ◌∙◌, mod-lt, arith}
 use Rattle.division.proofs.Blocks.{went_whole}
-use Rattle.division.proofs.Places.{few_places, rest_below, quotient_below}
+use Rattle.division.proofs.Places.{few_places, quotient_below}
 use Rattle.division.proofs.whole.at_once.Goals as goal
 
 pub put_all-requires : goal.put_all-requires
@@ -32,7 +32,7 @@ returns g c =
         omega (arith, divided.2),
         (
           sound.place,
-          went_whole d sound.divisor g.S.DigitSink.step m state.place c.to_u64.result _ _ _ _ _ _ _ (rest_below _ _ _ _ _ sound) c.requires (c.to_u64.ensures ∙ divided.1) divided.2 c.put_all.ensures.takes,
+          went_whole d sound.divisor g.S.DigitSink.step m state.place c.to_u64.result _ _ _ _ _ _ _ sound.rest c.requires (c.to_u64.ensures ∙ divided.1) divided.2 c.put_all.ensures.takes,
         ),
       );
       on = c.put_all.ensures.on;

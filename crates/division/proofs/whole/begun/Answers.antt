@@ -1,8 +1,9 @@
 use Rattle.std.proofs.Common.{◌≡◌, ◌+◌, ◌-◌, ◌*◌, ◌<◌, sym, refl, ◌∙◌, one-mul, arith}
 use Rattle.division.proofs.Places.{begun_width, unit_up, few_places}
 use Rattle.division.proofs.Tests.{less, not_less, past}
+use Rattle.division.proofs.whole.begun.Given as given
 use Rattle.division.proofs.whole.begun.Goals as goal
-use Rattle.division.proofs.whole.begun.Goals.{in-Some+then-is_lt, in_default}
+use Rattle.division.proofs.whole.begun.Goals.{Joined-checked_mul, in-Some+then-is_lt, in_default}
 
 pub widen-init : goal.widen-init
 widen-init g c = (omega arith, sym (one-mul _), λ h. absurd (omega arith), c.requires)
@@ -31,22 +32,25 @@ widen-preserved g c =
     )
 
 -- What n is below, whichever way the loop ended.
-pub returns : goal.returns
-returns g c =
+below : (g : given.Over) (c : Joined-checked_mul g) → g.T.CountingNumber.number c.args.n < 10 * g.T.CountingNumber.number c.widen.unit
+below g c =
     let number = g.T.CountingNumber.number in
-    let n = number c.args.n in
-    let u = number c.widen.unit in
-    let inv = c.widen.invariant in
     let bound = g.met.T.CountingNumber.within c.args.n in
-    let below : n < 10 * u =
     elim c.match-checked_mul.branch [
       | in-Some+then-is_lt w ↦
           let next = rw c.ten-ten.ensures at w.in-Some.ensures.1 in
           let small = less _ _ _ w.compare.ensures w.if-is_lt.ensures in
           omega arith
       | in_default w ↦ let over = past _ _ (rw c.ten-ten.ensures at w.in_default.ensures) in omega arith
-    ] in (
-      refl,
-      refl,
-      begun_width n _ u _ inv.0 inv.1 below inv.2,
-    )
+    ]
+
+pub invariant_of-result : goal.invariant_of-result
+invariant_of-result g c =
+    let inv = c.widen.invariant in
+    let width = begun_width _ _ _ _ inv.0 inv.1 (below g c) inv.2 in
+    record { sound = record { divisor = c.requires; place = inv.0; unit = inv.1; fits = g.met.T.CountingNumber.within c.widen.unit; rest = width.enough } }
+
+pub returns : goal.returns
+returns g c =
+    let inv = c.widen.invariant in
+    record { rest = refl; divisor = refl; width = begun_width _ _ _ _ inv.0 inv.1 (below g (goal.at.returns g c).Joined-checked_mul) inv.2 }
