@@ -4,7 +4,7 @@ use native.Mathlib.Nat.{mul-lt-mul_of_pos_left, mul-div-mul_left, div-div-eq-div
 use lib.Arith.{digits_div, digits_mod, mod-mul}
 use Rattle.division.specs.Digits.{fed}
 use Rattle.division.specs.Expansion.{digits, rest, Went}
-use Rattle.division.specs.Sink.{TakesAll}
+use Rattle.division.specs.Tally.{Tally, Took}
 use Rattle.division.proofs.Runs.{length_digits}
 
 -- A power of ten is not 0.
@@ -39,16 +39,16 @@ module _ (d : ℕ) (pd : 0 < d) where
   whole_rest m (suc p) below = whole_rest (m % (10 ^ p * d)) p (mod-lt m (unit_pos p)) ∙ remainder_left m p
 
   -- All digits of a whole part go into a sink.
-  pub went_whole : (step : ℕ → ℕ → ℕ) (m p q m' t l h t' l' h' : ℕ) → m < 10 ^ p * d → p ≤ l → q ≡ m / d → m' ≡ m % d
-      → TakesAll step t l h (digits 1 q p p) t' l' h' → Went step d m p (min l p) t l h t' l' h' m' 0
-  went_whole step m p q m' t l h t' l' h' below some eq em takes =
-      let all : min l p ≡ p = omega arith in
+  pub went_whole : (step : ℕ → ℕ → ℕ) (m p q m' : ℕ) (a b : Tally) → m < 10 ^ p * d → p ≤ a.left → q ≡ m / d → m' ≡ m % d
+      → Took step a (digits 1 q p p) b → Went step d m p (min a.left p) a b m' 0
+  went_whole step m p q m' a b below some eq em takes =
+      let all : min a.left p ≡ p = omega arith in
       let long = length_digits 1 q p p in
       rw all
       (record {
         taken = omega (arith, takes.taken);
         left = omega (arith, takes.left);
-        held = takes.held ∙ ap (λ z. fed step h (digits 1 z p p)) eq ∙ ap (fed step h) (sym (whole_digits m p));
+        held = takes.held ∙ ap (λ z. fed step a.held (digits 1 z p p)) eq ∙ ap (fed step a.held) (sym (whole_digits m p));
         state = em ∙ sym (whole_rest m p below);
         place = omega arith;
       })
@@ -85,14 +85,14 @@ module _ (d : ℕ) (pd : 0 < d) where
   block_rest r k below = rests_up r k ∙ whole_rest (10 ^ k * r) k (mul-lt-mul_of_pos_left below (ten_pos k))
 
 -- Four digits go into a sink.
-pub went_four : (step : ℕ → ℕ → ℕ) (d r q r' t l h t' l' h' : ℕ) → r < d → q ≡ 10000 * r / d → r' ≡ 10000 * r % d
-    → TakesAll step t l h (digits 1 q 4 4) t' l' h' → Went step d r 0 4 t l h t' l' h' r' 0
-went_four step d r q r' t l h t' l' h' below eq er takes =
+pub went_four : (step : ℕ → ℕ → ℕ) (d r q r' : ℕ) (a b : Tally) → r < d → q ≡ 10000 * r / d → r' ≡ 10000 * r % d
+    → Took step a (digits 1 q 4 4) b → Went step d r 0 4 a b r' 0
+went_four step d r q r' a b below eq er takes =
     let some : 0 < d = omega arith in
     record {
       taken = takes.taken;
       left = takes.left;
-      held = takes.held ∙ ap (λ z. fed step h (digits 1 z 4 4)) eq ∙ ap (fed step h) (sym (block_digits d some r 4));
+      held = takes.held ∙ ap (λ z. fed step a.held (digits 1 z 4 4)) eq ∙ ap (fed step a.held) (sym (block_digits d some r 4));
       state = er ∙ sym (block_rest d some r 4 below);
       place = refl;
     }

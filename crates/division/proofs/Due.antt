@@ -1,15 +1,15 @@
 -- Digits that go into a sink, by what is still to do.
-use Rattle.std.proofs.Common.{◌≡◌, ℕ, zero, suc, ◌+◌, ◌-◌, ◌*◌, ◌/◌, ◌%◌, ◌^◌, ◌<◌, min, refl, ap, ◌∙◌, arith}
+use Rattle.std.proofs.Common.{◌≡◌, ℕ, zero, suc, ◌+◌, ◌-◌, ◌*◌, ◌/◌, ◌%◌, ◌^◌, ◌<◌, min, [], ◌∷◌, sym, refl, ap, subst, ◌∙◌, arith}
 use native.Mathlib.Nat.{zero-mod}
 use Rattle.division.specs.Digits.{fed}
 use Rattle.division.specs.Expansion.{digits, rest, coming, Went}
-use Rattle.division.specs.Sink.{Same, Takes}
+use Rattle.division.specs.Tally.{Tally, Same, Took}
 
--- k digits are still to do from (m, p, t, l, h) on, and they come to the k₀ that there were to do from (m₀, p₀, t₀, l₀, h₀) on.
-pub record Due (step : ℕ → ℕ → ℕ) (d m₀ p₀ k₀ t₀ l₀ h₀ m p k t l h : ℕ) : Type 0 where
-  pub taken : t + k ≡ t₀ + k₀
-  pub left : l + k₀ ≡ l₀ + k
-  pub held : fed step h (digits d m p k) ≡ fed step h₀ (digits d m₀ p₀ k₀)
+-- k digits are still to do from (m, p) and the tally a on, and they come to the k₀ that there were to do from (m₀, p₀) and a₀ on.
+pub record Due (step : ℕ → ℕ → ℕ) (d m₀ p₀ k₀ : ℕ) (a₀ : Tally) (m p k : ℕ) (a : Tally) : Type 0 where
+  pub taken : a.taken + k ≡ a₀.taken + k₀
+  pub left : a.left + k₀ ≡ a₀.left + k
+  pub held : fed step a.held (digits d m p k) ≡ fed step a₀.held (digits d m₀ p₀ k₀)
   pub state : rest d m p k ≡ rest d m₀ p₀ k₀
   pub place : p - k ≡ p₀ - k₀
 
@@ -22,72 +22,74 @@ some_before : (d r k : ℕ) → 0 < rest d r 0 k → 0 < r
 some_before d zero k pos = absurd (omega (arith, none_after d k))
 some_before d (suc r) k pos = omega arith
 
-module _ (step : ℕ → ℕ → ℕ) (d m₀ p₀ k₀ t₀ l₀ h₀ : ℕ) where
-  pub due_first : Due step d m₀ p₀ k₀ t₀ l₀ h₀ m₀ p₀ k₀ t₀ l₀ h₀
+module _ (step : ℕ → ℕ → ℕ) (d m₀ p₀ k₀ : ℕ) (a₀ : Tally) where
+  pub due_first : Due step d m₀ p₀ k₀ a₀ m₀ p₀ k₀ a₀
   due_first = record { taken = refl; left = refl; held = refl; state = refl; place = refl }
 
   -- a digit of the whole part
-  pub due_whole : (m p t l h q m' p' t' l' h' : ℕ) → 0 < p → q ≡ m / (10 ^ (p - 1) * d) → m' ≡ m % (10 ^ (p - 1) * d) → p' ≡ p - 1 → Takes step t l h q t' l' h'
-      → Due step d m₀ p₀ k₀ t₀ l₀ h₀ m p (min l p) t l h → Due step d m₀ p₀ k₀ t₀ l₀ h₀ m' p' (min l' p') t' l' h'
-  due_whole m zero t l h q m' p' t' l' h' pos eq em ep takes g = absurd (omega arith)
-  due_whole m (suc p) t zero h q m' p' t' l' h' pos eq em ep takes g = absurd (omega (arith, takes.left))
-  due_whole m (suc p) t (suc l) h q m' p' t' l' h' pos eq em ep takes g =
+  pub due_whole : (m p : ℕ) (a : Tally) (q m' p' : ℕ) (b : Tally) → 0 < p → q ≡ m / (10 ^ (p - 1) * d) → m' ≡ m % (10 ^ (p - 1) * d) → p' ≡ p - 1
+      → Took step a (q ∷ []) b → Due step d m₀ p₀ k₀ a₀ m p (min a.left p) a → Due step d m₀ p₀ k₀ a₀ m' p' (min b.left p') b
+  due_whole m zero a q m' p' b pos eq em ep took g = absurd (omega arith)
+  due_whole m (suc p) a q m' p' b pos eq em ep took g =
       let e : suc p - 1 ≡ p = omega arith in
       let e' : p' ≡ p = omega arith in
-      let el : l' ≡ l = omega (arith, takes.left) in
       let em' : m' ≡ m % (10 ^ p * d) = rw e at em in
-      let eh : h' ≡ step h (m / (10 ^ p * d)) = takes.held ∙ ap (step h) (rw e at eq) in
-      let k : min (suc l) (suc p) ≡ suc (min l p) = omega arith in
-      rw (e', el, em', eh)
+      let eh : b.held ≡ step a.held (m / (10 ^ p * d)) = took.held ∙ ap (step a.held) (rw e at eq) in
+      let k : min a.left (suc p) ≡ suc (min b.left p) = omega (arith, took.left) in
+      rw (e', em')
       (record {
-        taken = omega (arith, g.taken, takes.taken);
-        left = omega (arith, g.left);
-        held = rw k at g.held;
+        taken = omega (arith, g.taken, took.taken);
+        left = omega (arith, g.left, took.left);
+        held = ap (λ h. fed step h (digits d (m % (10 ^ p * d)) p (min b.left p))) eh ∙ rw k at g.held;
         state = rw k at g.state;
         place = omega (arith, g.place);
       })
 
   -- a digit of the fraction
-  due_more : (r t l h t' l' h' : ℕ) → 0 < r → t' ≡ t + 1 → l' + 1 ≡ l → h' ≡ step h (10 * r / d)
-      → Due step d m₀ p₀ k₀ t₀ l₀ h₀ r 0 (coming d r l) t l h → Due step d m₀ p₀ k₀ t₀ l₀ h₀ (10 * r % d) 0 (coming d (10 * r % d) l') t' l' h'
-  due_more zero t l h t' l' h' pos et el eh g = absurd (omega arith)
-  due_more (suc r) t zero h t' l' h' pos et el eh g = absurd (omega arith)
-  due_more (suc r) t (suc l) h t' l' h' pos et el eh g =
-      let same : l' ≡ l = omega arith in
-      rw (same, eh)
-      (record {
+  due_more : (r : ℕ) (a b : Tally) → 0 < r → b.taken ≡ a.taken + 1 → b.left + 1 ≡ a.left → b.held ≡ step a.held (10 * r / d)
+      → Due step d m₀ p₀ k₀ a₀ r 0 (coming d r a.left) a → Due step d m₀ p₀ k₀ a₀ (10 * r % d) 0 (coming d (10 * r % d) b.left) b
+  due_more zero a b pos et el eh g = absurd (omega arith)
+  due_more (suc r) a b pos et el eh g =
+      let n : ℕ = coming d (10 * suc r % d) b.left in
+      let some : a.left ≡ suc b.left = omega arith in
+      let k : coming d (suc r) a.left ≡ suc n = ap (coming d (suc r)) some in
+      record {
         taken = omega (arith, g.taken);
         left = omega (arith, g.left);
-        held = g.held;
-        state = g.state;
+        held = ap (λ h. fed step h (digits d (10 * suc r % d) 0 n)) eh ∙ rw k at g.held;
+        state = rw k at g.state;
         place = omega (arith, g.place);
-      })
+      }
 
-  pub due_fraction : (r t l h q r' t' l' h' : ℕ) → 0 < r → q ≡ 10 * r / d → r' ≡ 10 * r % d → Takes step t l h q t' l' h'
-      → Due step d m₀ p₀ k₀ t₀ l₀ h₀ r 0 (coming d r l) t l h → Due step d m₀ p₀ k₀ t₀ l₀ h₀ r' 0 (coming d r' l') t' l' h'
-  due_fraction r t l h q r' t' l' h' pos eq er takes g = rw er (due_more r t l h t' l' h' pos takes.taken takes.left (takes.held ∙ ap (step h) eq) g)
+  pub due_fraction : (r : ℕ) (a : Tally) (q r' : ℕ) (b : Tally) → 0 < r → q ≡ 10 * r / d → r' ≡ 10 * r % d → Took step a (q ∷ []) b
+      → Due step d m₀ p₀ k₀ a₀ r 0 (coming d r a.left) a → Due step d m₀ p₀ k₀ a₀ r' 0 (coming d r' b.left) b
+  due_fraction r a q r' b pos eq er took g = rw er (due_more r a b pos took.taken took.left (took.held ∙ ap (step a.held) eq) g)
+
+  pub due_same : (m p k : ℕ) (a b : Tally) → Same a b → Due step d m₀ p₀ k₀ a₀ m p k a → Due step d m₀ p₀ k₀ a₀ m p k b
+  due_same m p k a b same g =
+      record {
+        taken = omega (arith, same.taken, g.taken);
+        left = omega (arith, same.left, g.left);
+        held = ap (λ h. fed step h (digits d m p k)) same.held ∙ g.held;
+        state = g.state;
+        place = g.place;
+      }
+
+  pub due_still : (r : ℕ) (a b : Tally) → Same a b → Due step d m₀ p₀ k₀ a₀ r 0 (coming d r a.left) a → Due step d m₀ p₀ k₀ a₀ r 0 (coming d r b.left) b
+  due_still r a b same g = subst (λ l. Due step d m₀ p₀ k₀ a₀ r 0 (coming d r l) b) (sym same.left) (due_same r 0 (coming d r a.left) a b same g)
 
   -- k digits of the fraction with others after them
-  pub due_block : (k r t l h r' t' l' h' : ℕ) → 0 < r' → Went step d r 0 k t l h t' l' h' r' 0
-      → Due step d m₀ p₀ k₀ t₀ l₀ h₀ r 0 (coming d r l) t l h → Due step d m₀ p₀ k₀ t₀ l₀ h₀ r' 0 (coming d r' l') t' l' h'
-  due_block zero r t l h r' t' l' h' pos w g =
-      let et : t' ≡ t = omega (arith, w.taken) in
-      let el : l' ≡ l = omega (arith, w.left) in
-      rw (w.state, et, el, w.held) g
-  due_block (suc k) r t l h r' t' l' h' pos w g =
-      due_block k (10 * r % d) (t + 1) (l' + k) (step h (10 * r / d)) r' t' l' h' pos
+  pub due_block : (k r : ℕ) (a : Tally) (r' : ℕ) (b : Tally) → 0 < r' → Went step d r 0 k a b r' 0
+      → Due step d m₀ p₀ k₀ a₀ r 0 (coming d r a.left) a → Due step d m₀ p₀ k₀ a₀ r' 0 (coming d r' b.left) b
+  due_block zero r a r' b pos w g = rw w.state (due_still r a b (record { taken = omega (arith, w.taken); left = omega (arith, w.left); held = w.held }) g)
+  due_block (suc k) r a r' b pos w g =
+      let next : Tally = record { taken = a.taken + 1; left = b.left + k; held = step a.held (10 * r / d) } in
+      due_block k (10 * r % d) next r' b pos
       (record { taken = omega (arith, w.taken); left = refl; held = w.held; state = w.state; place = omega arith })
-      (due_more r t l h (t + 1) (l' + k) (step h (10 * r / d)) (some_before d r (suc k) (rw w.state at pos)) refl (omega (arith, w.left)) refl g)
+      (due_more r a next (some_before d r (suc k) (rw w.state at pos)) refl (omega (arith, w.left)) refl g)
 
-  pub due_same : (m p k t l h t' l' h' : ℕ) → Same t l h t' l' h' → Due step d m₀ p₀ k₀ t₀ l₀ h₀ m p k t l h → Due step d m₀ p₀ k₀ t₀ l₀ h₀ m p k t' l' h'
-  due_same m p k t l h t' l' h' same g = rw (same.taken, same.left, same.held) g
-
-  pub due_still : (r t l h t' l' h' : ℕ) → Same t l h t' l' h'
-      → Due step d m₀ p₀ k₀ t₀ l₀ h₀ r 0 (coming d r l) t l h → Due step d m₀ p₀ k₀ t₀ l₀ h₀ r 0 (coming d r l') t' l' h'
-  due_still r t l h t' l' h' same g = rw (same.taken, same.left, same.held) g
-
-  pub due_none : (m p k t l h : ℕ) → k ≡ 0 → Due step d m₀ p₀ k₀ t₀ l₀ h₀ m p k t l h → Went step d m₀ p₀ k₀ t₀ l₀ h₀ t l h m p
-  due_none m p k t l h e g =
+  pub due_none : (m p k : ℕ) (a : Tally) → k ≡ 0 → Due step d m₀ p₀ k₀ a₀ m p k a → Went step d m₀ p₀ k₀ a₀ a m p
+  due_none m p k a e g =
       record {
         taken = omega (arith, g.taken);
         left = omega (arith, g.left);
@@ -97,9 +99,8 @@ module _ (step : ℕ → ℕ → ℕ) (d m₀ p₀ k₀ t₀ l₀ h₀ : ℕ) wh
       }
 
   -- what was still to do is done
-  pub due_done : (m p k t l h t' l' h' m' p' : ℕ) → Due step d m₀ p₀ k₀ t₀ l₀ h₀ m p k t l h → Went step d m p k t l h t' l' h' m' p'
-      → Went step d m₀ p₀ k₀ t₀ l₀ h₀ t' l' h' m' p'
-  due_done m p k t l h t' l' h' m' p' g w =
+  pub due_done : (m p k : ℕ) (a b : Tally) (m' p' : ℕ) → Due step d m₀ p₀ k₀ a₀ m p k a → Went step d m p k a b m' p' → Went step d m₀ p₀ k₀ a₀ b m' p'
+  due_done m p k a b m' p' g w =
       record {
         taken = omega (arith, g.taken, w.taken);
         left = omega (arith, g.left, w.left);

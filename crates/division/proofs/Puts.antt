@@ -3,44 +3,39 @@ use Rattle.std.proofs.Common.{◌≡◌, ℕ, zero, suc, ◌+◌, ◌-◌, ◌*�
 use native.Mathlib.Nat.{pow-le-pow_right}
 use Rattle.division.specs.Digits.{fed}
 use Rattle.division.specs.Expansion.{digits}
-use Rattle.division.specs.Sink.{Takes, TakesAll}
+use Rattle.division.specs.Tally.{Tally, Took}
 use Rattle.division.proofs.Blocks.{ten_pos, digit_over, quotient_left, remainder_left}
 use Rattle.division.proofs.Fed.{fed_append}
 
-pub takes_one : (step : ℕ → ℕ → ℕ) (t l h d t' l' h' : ℕ) → Takes step t l h d t' l' h' → TakesAll step t l h (d ∷ []) t' l' h'
-takes_one step t l h d t' l' h' takes = record { taken = takes.taken; left = takes.left; held = takes.held }
-
-pub takes_join : (step : ℕ → ℕ → ℕ) (t l h : ℕ) (xs : List ℕ) (t' l' h' : ℕ) (ys : List ℕ) (t'' l'' h'' : ℕ)
-    → TakesAll step t l h xs t' l' h' → TakesAll step t' l' h' ys t'' l'' h'' → TakesAll step t l h (xs ++ ys) t'' l'' h''
-takes_join step t l h xs t' l' h' ys t'' l'' h'' first second =
+pub takes_join : (step : ℕ → ℕ → ℕ) (a : Tally) (xs : List ℕ) (b : Tally) (ys : List ℕ) (c : Tally) → Took step a xs b → Took step b ys c → Took step a (xs ++ ys) c
+takes_join step a xs b ys c first second =
     let long = length-append xs ys in
     record {
       taken = omega (arith, first.taken, second.taken);
       left = omega (arith, first.left, second.left);
-      held = second.held ∙ ap (λ z. fed step z ys) first.held ∙ sym (fed_append step h xs ys);
+      held = second.held ∙ ap (λ z. fed step z ys) first.held ∙ sym (fed_append step a.held xs ys);
     }
 
--- The digits xs are still to come from (t, l, h) on, and they come to the digits zs from (t₀, l₀, h₀) on.
-pub record Remain (step : ℕ → ℕ → ℕ) (t₀ l₀ h₀ : ℕ) (zs : List ℕ) (t l h : ℕ) (xs : List ℕ) : Type 0 where
-  pub taken : t + length xs ≡ t₀ + length zs
-  pub left : l + length zs ≡ l₀ + length xs
-  pub held : fed step h xs ≡ fed step h₀ zs
+-- The digits xs are still to come from the tally a on, and they come to the digits zs from a₀ on.
+pub record Remain (step : ℕ → ℕ → ℕ) (a₀ : Tally) (zs : List ℕ) (a : Tally) (xs : List ℕ) : Type 0 where
+  pub taken : a.taken + length xs ≡ a₀.taken + length zs
+  pub left : a.left + length zs ≡ a₀.left + length xs
+  pub held : fed step a.held xs ≡ fed step a₀.held zs
 
-module _ (step : ℕ → ℕ → ℕ) (t₀ l₀ h₀ : ℕ) (zs : List ℕ) where
-  pub remain_all : Remain step t₀ l₀ h₀ zs t₀ l₀ h₀ zs
+module _ (step : ℕ → ℕ → ℕ) (a₀ : Tally) (zs : List ℕ) where
+  pub remain_all : Remain step a₀ zs a₀ zs
   remain_all = record { taken = refl; left = refl; held = refl }
 
-  remain_none : (t l h : ℕ) → Remain step t₀ l₀ h₀ zs t l h [] → TakesAll step t₀ l₀ h₀ zs t l h
-  remain_none t l h g = record { taken = omega (arith, g.taken); left = omega (arith, g.left); held = g.held }
+  remain_none : (a : Tally) → Remain step a₀ zs a [] → Took step a₀ zs a
+  remain_none a g = record { taken = omega (arith, g.taken); left = omega (arith, g.left); held = g.held }
 
-  remain_less : (t l h : ℕ) (xs ys : List ℕ) (t' l' h' : ℕ) → TakesAll step t l h xs t' l' h'
-      → Remain step t₀ l₀ h₀ zs t l h (xs ++ ys) → Remain step t₀ l₀ h₀ zs t' l' h' ys
-  remain_less t l h xs ys t' l' h' takes g =
+  remain_less : (a : Tally) (xs ys : List ℕ) (b : Tally) → Took step a xs b → Remain step a₀ zs a (xs ++ ys) → Remain step a₀ zs b ys
+  remain_less a xs ys b takes g =
       let long = length-append xs ys in
       record {
         taken = omega (arith, g.taken, takes.taken);
         left = omega (arith, g.left, takes.left);
-        held = ap (λ z. fed step z ys) takes.held ∙ sym (fed_append step h xs ys) ∙ g.held;
+        held = ap (λ z. fed step z ys) takes.held ∙ sym (fed_append step a.held xs ys) ∙ g.held;
       }
 
 -- A number's digits are those above its last b digits, and then those.
@@ -84,34 +79,33 @@ groups_less g some = omega arith
 pub group_small : (n g : ℕ) → 0 < g → n < 10 ^ (4 * g) → n / 10 ^ (4 * (g - 1)) < 10000
 group_small n g some below = parts_small n 4 (4 * (g - 1)) (rw (groups_less g some) at below)
 
-pub group_less : (step : ℕ → ℕ → ℕ) (t₀ l₀ h₀ : ℕ) (zs : List ℕ) (n g q r t l h t' l' h' : ℕ) → 0 < g → n < 10 ^ (4 * g)
-    → q ≡ n / 10 ^ (4 * (g - 1)) → r ≡ n % 10 ^ (4 * (g - 1)) → TakesAll step t l h (digits 1 q 4 4) t' l' h'
-    → Remain step t₀ l₀ h₀ zs t l h (digits 1 n (4 * g) (4 * g)) → Remain step t₀ l₀ h₀ zs t' l' h' (digits 1 r (4 * (g - 1)) (4 * (g - 1)))
-group_less step t₀ l₀ h₀ zs n g q r t l h t' l' h' some below eq er takes remain =
-    let b = 4 * (g - 1) in
-    let e : 4 * g ≡ 4 + b = groups_less g some in
-    let parts : digits 1 n (4 * g) (4 * g) ≡ digits 1 q 4 4 ++ digits 1 r b b =
-    ap (λ k. digits 1 n k k) e ∙ digits_parts n 4 b (rw e at below) ∙ ap (λ z. digits 1 z 4 4 ++ digits 1 (n % 10 ^ b) b b) (sym eq) ∙ ap (λ z. digits 1 q 4 4 ++ digits 1 z b b) (sym er) in
-    remain_less step t₀ l₀ h₀ zs t l h (digits 1 q 4 4) (digits 1 r b b) t' l' h' takes (rw parts at remain)
+pub group_less : (step : ℕ → ℕ → ℕ) (a₀ : Tally) (zs : List ℕ) (n g q r : ℕ) (a b : Tally) → 0 < g → n < 10 ^ (4 * g)
+    → q ≡ n / 10 ^ (4 * (g - 1)) → r ≡ n % 10 ^ (4 * (g - 1)) → Took step a (digits 1 q 4 4) b
+    → Remain step a₀ zs a (digits 1 n (4 * g) (4 * g)) → Remain step a₀ zs b (digits 1 r (4 * (g - 1)) (4 * (g - 1)))
+group_less step a₀ zs n g q r a b some below eq er takes remain =
+    let low = 4 * (g - 1) in
+    let e : 4 * g ≡ 4 + low = groups_less g some in
+    let parts : digits 1 n (4 * g) (4 * g) ≡ digits 1 q 4 4 ++ digits 1 r low low =
+    ap (λ k. digits 1 n k k) e ∙ digits_parts n 4 low (rw e at below) ∙ ap (λ z. digits 1 z 4 4 ++ digits 1 (n % 10 ^ low) low low) (sym eq) ∙ ap (λ z. digits 1 q 4 4 ++ digits 1 z low low) (sym er) in
+    remain_less step a₀ zs a (digits 1 q 4 4) (digits 1 r low low) b takes (rw parts at remain)
 
-pub groups_done : (step : ℕ → ℕ → ℕ) (t₀ l₀ h₀ : ℕ) (zs : List ℕ) (n g t l h : ℕ) → g ≤ 0
-    → Remain step t₀ l₀ h₀ zs t l h (digits 1 n (4 * g) (4 * g)) → TakesAll step t₀ l₀ h₀ zs t l h
-groups_done step t₀ l₀ h₀ zs n g t l h none remain =
+pub groups_done : (step : ℕ → ℕ → ℕ) (a₀ : Tally) (zs : List ℕ) (n g : ℕ) (a : Tally) → g ≤ 0
+    → Remain step a₀ zs a (digits 1 n (4 * g) (4 * g)) → Took step a₀ zs a
+groups_done step a₀ zs n g a none remain =
     let e : 4 * g ≡ 0 = omega arith in
-    remain_none step t₀ l₀ h₀ zs t l h (rw e at remain)
+    remain_none step a₀ zs a (rw e at remain)
 
 -- The digits above the groups, and then the groups.
-pub takes_parts : (step : ℕ → ℕ → ℕ) (n c g q r t l h t' l' h' t'' l'' h'' : ℕ) → 4 * g ≤ c → n < 10 ^ c → q ≡ n / 10 ^ (4 * g) → r ≡ n % 10 ^ (4 * g)
-    → TakesAll step t l h (digits 1 q (c - 4 * g) (c - 4 * g)) t' l' h' → TakesAll step t' l' h' (digits 1 r (4 * g) (4 * g)) t'' l'' h''
-    → TakesAll step t l h (digits 1 n c c) t'' l'' h''
-takes_parts step n c g q r t l h t' l' h' t'' l'' h'' some below eq er first second =
-    let a = c - 4 * g in
-    let b = 4 * g in
-    let e : c ≡ a + b = above_count c g some in
-    let small : n < 10 ^ (a + b) = rw (sym e) below in
-    let parts : digits 1 n c c ≡ digits 1 q a a ++ digits 1 r b b =
-    ap (λ k. digits 1 n k k) e ∙ digits_parts n a b small ∙ ap (λ z. digits 1 z a a ++ digits 1 (n % 10 ^ b) b b) (sym eq) ∙ ap (λ z. digits 1 q a a ++ digits 1 z b b) (sym er) in
-    rw parts (takes_join step t l h (digits 1 q a a) t' l' h' (digits 1 r b b) t'' l'' h'' first second)
+pub takes_parts : (step : ℕ → ℕ → ℕ) (n k g q r : ℕ) (a b c : Tally) → 4 * g ≤ k → n < 10 ^ k → q ≡ n / 10 ^ (4 * g) → r ≡ n % 10 ^ (4 * g)
+    → Took step a (digits 1 q (k - 4 * g) (k - 4 * g)) b → Took step b (digits 1 r (4 * g) (4 * g)) c → Took step a (digits 1 n k k) c
+takes_parts step n k g q r a b c some below eq er first second =
+    let high = k - 4 * g in
+    let low = 4 * g in
+    let e : k ≡ high + low = above_count k g some in
+    let small : n < 10 ^ (high + low) = rw (sym e) below in
+    let parts : digits 1 n k k ≡ digits 1 q high high ++ digits 1 r low low =
+    ap (λ k. digits 1 n k k) e ∙ digits_parts n high low small ∙ ap (λ z. digits 1 z high high ++ digits 1 (n % 10 ^ low) low low) (sym eq) ∙ ap (λ z. digits 1 q high high ++ digits 1 z low low) (sym er) in
+    rw parts (takes_join step a (digits 1 q high high) b (digits 1 r low low) c first second)
 
 -- The digits of a number of four, each from what those above it leave.
 pub four_left : (n : ℕ) → digits 1 n 4 4 ≡ n / 1000 ∷ n % 1000 / 100 ∷ n % 1000 % 100 / 10 ∷ n % 1000 % 100 % 10 ∷ []

@@ -3,8 +3,8 @@ use Rattle.std.proofs.Common.{◌≡◌, ℕ, zero, suc, ◌+◌, ◌-◌, ◌*�
 use Rattle.division.specs.Expansion.{digits, rest, coming, Went}
 use Rattle.division.specs.Faults.{Cause}
 use Rattle.division.specs.Laws.{StandsStill}
-use Rattle.division.specs.Runs.{Kind, whole, fraction, refused, Call, MadeBy, Run, total, last_rest, last_place, Took, Shared, Goes, EachGoes}
-use Rattle.division.specs.Sink.{Same}
+use Rattle.division.specs.Runs.{Kind, whole, fraction, refused, Call, MadeBy, Run, total, last_rest, last_place, Shared, Goes, EachGoes}
+use Rattle.division.specs.Tally.{Same, Took}
 use Rattle.division.specs.declared.fault.DivisionFault.{DivisionFault}
 use Rattle.division.specs.declared.fault.DivisionFault.TheVariants.{ZeroDivisor, RemainderNotBelow}
 use Rattle.division.proofs.Decimals.{below}
@@ -51,13 +51,13 @@ length_digits d m (suc p) (suc k) = ap suc (length_digits d (m % (10 ^ p * d)) p
 
 -- What one call that goes on comes to: its sink took the next digits, and the state is the one after them.
 record One (d m p : ℕ) (c : Call) : Type 0 where
-  took : Took c (digits d m p (c.taken' - c.taken))
-  state : c.rest' ≡ rest d m p (c.taken' - c.taken)
-  at : c.place' ≡ p - (c.taken' - c.taken)
+  took : Took c.step c.before (digits d m p (c.after.taken - c.before.taken)) c.after
+  state : c.rest' ≡ rest d m p (c.after.taken - c.before.taken)
+  at : c.place' ≡ p - (c.after.taken - c.before.taken)
 
-one_went : (d m p k : ℕ) (c : Call) → Went c.step d m p k c.taken c.left c.held c.taken' c.left' c.held' c.rest' c.place' → One d m p c
+one_went : (d m p k : ℕ) (c : Call) → Went c.step d m p k c.before c.after c.rest' c.place' → One d m p c
 one_went d m p k c w =
-    let e : c.taken' - c.taken ≡ k = omega (arith, w.taken) in
+    let e : c.after.taken - c.before.taken ≡ k = omega (arith, w.taken) in
     let n = length_digits d m p k in
     record {
       took = rw e (record { taken = omega (arith, w.taken); left = omega (arith, w.left); held = w.held });
@@ -71,14 +71,14 @@ no_cause ZeroDivisor d m p z h cause = let i : m < 10 ^ 0 * d = rw z at h in ome
 no_cause RemainderNotBelow d m p z h cause = let i : m < 10 ^ 0 * d = rw z at h in omega (arith, one-mul d)
 
 one_made : (kind : Kind) (d m p : ℕ) (c : Call) → m < 10 ^ p * d → MadeBy kind d m p c → Goes kind × One d m p c
-one_made whole d m p c h made = (tt, one_went d m p (min c.left p) c made.1)
-one_made fraction d m p c h made = (tt, rw made.0 (one_went d m 0 (coming d m c.left) c made.2))
+one_made whole d m p c h made = (tt, one_went d m p (min c.before.left p) c made.1)
+one_made fraction d m p c h made = (tt, rw made.0 (one_went d m 0 (coming d m c.before.left) c made.2))
 one_made (refused f) d m p c h made = absurd (no_cause f d m p made.0 h made.1)
 
 goes_on : (d m p : ℕ) (cs : List Call) → Run d m p cs → m < 10 ^ p * d → GoesOn d m p cs
 goes_on d m p [] run h = record { kinds = tt; shared = refl; state = refl; place = omega arith }
 goes_on d m p (c ∷ cs) run h =
-    let k = c.taken' - c.taken in
+    let k = c.after.taken - c.before.taken in
     let made = one_made c.kind d m p c h run.0 in
     let one = made.1 in
     let next : c.rest' < 10 ^ c.place' * d = rw (one.state, one.at) (below d k m p h) in
@@ -96,7 +96,7 @@ goes_on d m p (c ∷ cs) run h =
 -- What one call comes to where the remainder is not below the divisor.
 record Still (d m : ℕ) (kind : Kind) (c : Call) : Type 0 where
   refusal : (f : DivisionFault) × (kind ≡ refused f) × Cause f d m
-  same : Same c.taken c.left c.held c.taken' c.left' c.held'
+  same : Same c.before c.after
   state : c.rest' ≡ m
   at : c.place' ≡ 0
 

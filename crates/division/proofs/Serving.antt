@@ -1,10 +1,11 @@
 -- One call more on a division that serves sinks.
 use Rattle.std.proofs.Common.{◌≡◌, ℕ, ◌*◌, ◌^◌, ◌<◌, List, [], ◌∷◌, ◌++◌, sym, refl, ap, ◌∙◌, subst, one-mul, arith}
 use Rattle.generic.specs.declared.counting.CountingNumber as counting
-use Rattle.division.specs.Runs.{Kind, whole, Call, Made, Run, seen, last_rest, last_place}
+use Rattle.division.specs.Runs.{Kind, whole, Call, Made, Run, last_rest, last_place}
 use Rattle.division.specs.Serve.{divisor_of, rest_of, place_of, CanGoOn, Seen, Serves, Steps, Served}
 use Rattle.division.specs.declared.integral_state.IntegralState.{IntegralState}
 use Rattle.division.specs.declared.sink.DigitSink.{Ghosts}
+use Rattle.division.specs.Sink.{called}
 use Rattle.division.specs.Whole.{Integrates}
 use Rattle.division.specs.declared.state.Division.{Division}
 use Rattle.division.specs.declared.state.Division.TheVariants.{Whole, Fraction}
@@ -65,11 +66,11 @@ served_more g sink start mid after ss ts s t before step =
     (step.divisor ∙ before.divisor)
 
 -- One call, by its kind and by the divisions before and after.
-pub steps : {X S : Type 0} (g : counting.Ghosts X) (sink : Ghosts S) (before before' : Division X g) (s t : S) (after : Division X g) (kind : Kind) → before' ≡ before → sink.on s t → divisor_of after ≡ divisor_of before → Made (g.number (divisor_of before)) (g.number (rest_of before)) (place_of before) (seen kind sink.step (sink.taken s) (sink.left s) (sink.held s) (sink.taken t) (sink.left t) (sink.held t) (g.number (rest_of after)) (place_of after)) → Steps g sink before' s t after
+pub steps : {X S : Type 0} (g : counting.Ghosts X) (sink : Ghosts S) (before before' : Division X g) (s t : S) (after : Division X g) (kind : Kind) → before' ≡ before → sink.on s t → divisor_of after ≡ divisor_of before → Made (g.number (divisor_of before)) (g.number (rest_of before)) (place_of before) (called sink kind s t (g.number (rest_of after)) (place_of after)) → Steps g sink before' s t after
 steps g sink before before' s t after kind same on divisor made =
     subst (λ b. Steps g sink b s t after) (sym same) (record {
-      call = seen kind sink.step (sink.taken s) (sink.left s) (sink.held s) (sink.taken t) (sink.left t) (sink.held t) (g.number (rest_of after)) (place_of after);
-      sees = record { step = refl; taken = refl; left = refl; held = refl; taken' = refl; left' = refl; held' = refl; on = on };
+      call = called sink kind s t (g.number (rest_of after)) (place_of after);
+      sees = record { step = refl; before = refl; after = refl; on = on };
       made = made;
       rest = refl;
       place = refl;
@@ -78,7 +79,7 @@ steps g sink before before' s t after kind same on divisor made =
 
 -- A call on the whole part.
 pub integrated : {X S : Type 0} (g : counting.Ghosts X) (sink : Ghosts S) (before : Division X g) (state : IntegralState X g) (s t : S) (after : Division X g) → before ≡ Whole state → sink.on s t
-    → Integrates g sink.step state (sink.taken s) (sink.left s) (sink.held s) (sink.taken t) (sink.left t) (sink.held t) after → Steps g sink before s t after
+    → Integrates g sink state s t after → Steps g sink before s t after
 integrated g sink before state s t (Whole a) same on went =
     steps g sink (Whole state) before s t (Whole a) whole same on went.1 went.2
 integrated g sink before state s t (Fraction a) same on went =

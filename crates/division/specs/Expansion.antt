@@ -3,6 +3,7 @@
 -- p digits of the whole part are still to come, and then those of the fraction.
 use Rattle.std.specs.Prelude.{◌≡◌, ℕ, zero, suc, ◌+◌, ◌-◌, ◌*◌, ◌/◌, ◌%◌, ◌^◌, List, [], ◌∷◌}
 use Rattle.division.specs.Digits.{fed}
+use Rattle.division.specs.Tally.{Tally}
 
 -- The next k digits.
 abbrev pub digits : ℕ → ℕ → ℕ → ℕ → List ℕ
@@ -22,10 +23,10 @@ coming d r zero = 0
 coming d zero (suc l) = 0
 coming d (suc r) (suc l) = suc (coming d (10 * suc r % d) l)
 
--- The next k digits go into a sink: what they make of the sink's taken, left and held, and of the state's rest and place.
-pub record Went (step : ℕ → ℕ → ℕ) (d m p k t l h t' l' h' m' p' : ℕ) : Type 0 where
-  pub taken : t' ≡ t + k
-  pub left : l' + k ≡ l
-  pub held : h' ≡ fed step h (digits d m p k)
+-- The next k digits go into a sink: what they make of the sink's tally, and of the state's rest and place.
+pub record Went (step : ℕ → ℕ → ℕ) (d m p k : ℕ) (a b : Tally) (m' p' : ℕ) : Type 0 where
+  pub taken : b.taken ≡ a.taken + k
+  pub left : b.left + k ≡ a.left
+  pub held : b.held ≡ fed step a.held (digits d m p k)
   pub state : m' ≡ rest d m p k
   pub place : p' ≡ p - k

@@ -11,4 +11,5 @@ pub mod Serve
 pub mod Sink
 pub mod Sinks
 pub mod Sound
+pub mod Tally
 pub mod Whole

@@ -5,6 +5,7 @@ use Rattle.generic.specs.declared.counting.CountingNumber as counting
 use Rattle.division.specs.Faults.{refusal}
 use Rattle.division.specs.Laws.{Leading, StandsStill}
 use Rattle.division.specs.Runs.{Call, Made, Run, last_rest, last_place}
+use Rattle.division.specs.Sink.{tally}
 use Rattle.division.specs.Whole.{Begun}
 use Rattle.division.specs.declared.fault.DivisionFault.{DivisionFault}
 use Rattle.division.specs.declared.integral_state.IntegralState.{IntegralState}
@@ -33,12 +34,8 @@ CanGoOn {g} (Fraction s) = g.number s.remainder < g.number s.divisor
 -- A call took the sink from s to s'.
 pub record Seen {S : Type 0} (sink : Ghosts S) (s s' : S) (c : Call) : Type 0 where
   pub step : c.step ≡ sink.step
-  pub taken : c.taken ≡ sink.taken s
-  pub left : c.left ≡ sink.left s
-  pub held : c.held ≡ sink.held s
-  pub taken' : c.taken' ≡ sink.taken s'
-  pub left' : c.left' ≡ sink.left s'
-  pub held' : c.held' ≡ sink.held s'
+  pub before : c.before ≡ tally sink s
+  pub after : c.after ≡ tally sink s'
   pub on : sink.on s s'
 
 -- One call for each sink, in the order of the sinks.

@@ -1,31 +1,16 @@
--- What a digit sink does with an offered digit.
-use Rattle.std.specs.Prelude.{◌≡◌, ℕ, ◌+◌, ◌<◌, ◌≤◌, List, length}
-use Rattle.division.specs.Digits.{fed}
-use Rattle.division.specs.declared.sink.Answer.{Answer}
-use Rattle.division.specs.declared.sink.Answer.TheVariants.{NotDigit, Full, Enough, More}
+-- A sink before and after.
+use Rattle.std.specs.Prelude.{ℕ, List}
+use Rattle.division.specs.Runs.{Kind, Call}
+use Rattle.division.specs.Tally.{Tally, Took, tally_by}
+use Rattle.division.specs.declared.sink.DigitSink.{Ghosts}
 
--- Nothing of a sink changes.
-pub record Same (t l h t' l' h' : ℕ) : Type 0 where
-  pub taken : t' ≡ t
-  pub left : l' ≡ l
-  pub held : h' ≡ h
+abbrev pub tally : {S : Type 0} → Ghosts S → S → Tally
+tally sink s = tally_by sink.taken sink.left sink.held s
 
--- The sink takes the digit d.
-pub record Takes (step : ℕ → ℕ → ℕ) (t l h d t' l' h' : ℕ) : Type 0 where
-  pub digit : d < 10
-  pub taken : t' ≡ t + 1
-  pub left : l' + 1 ≡ l
-  pub held : h' ≡ step h d
+-- The sink s takes the digits xs, one after another, and is then t.
+abbrev pub Takes : {S : Type 0} → Ghosts S → S → List ℕ → S → Type 0
+Takes sink s xs t = Took sink.step (tally sink s) xs (tally sink t)
 
--- The sink takes the digits xs, one after another.
-pub record TakesAll (step : ℕ → ℕ → ℕ) (t l h : ℕ) (xs : List ℕ) (t' l' h' : ℕ) : Type 0 where
-  pub taken : t' ≡ t + length xs
-  pub left : l' + length xs ≡ l
-  pub held : h' ≡ fed step h xs
-
--- What an offer of d answers, and what it makes of taken, left and held: exactly one answer fits each offer.
-abbrev pub Offered : (ℕ → ℕ → ℕ) → ℕ → ℕ → ℕ → ℕ → ℕ → ℕ → ℕ → Answer → Type 0
-Offered step t l h d t' l' h' NotDigit = (10 ≤ d) × Same t l h t' l' h'
-Offered step t l h d t' l' h' Full = (d < 10) × (l ≡ 0) × Same t l h t' l' h'
-Offered step t l h d t' l' h' Enough = (l' ≡ 0) × Takes step t l h d t' l' h'
-Offered step t l h d t' l' h' More = (0 < l') × Takes step t l h d t' l' h'
+-- A call on a division, from the sink s to t, that hands back the rest m and the place p.
+abbrev pub called : {S : Type 0} → Ghosts S → Kind → S → S → ℕ → ℕ → Call
+called sink kind s t m p = record { kind = kind; step = sink.step; before = tally sink s; after = tally sink t; rest' = m; place' = p }

@@ -1,14 +1,14 @@
 // Digits that their caller knows a sink to take.
-ghost use Rattle.std.specs.Prelude.{◌≡◌, ◌*◌, ◌/◌, ◌%◌, ◌^◌, ◌<◌, ◌≤◌};
+ghost use Rattle.std.specs.Prelude.{◌≡◌, ◌*◌, ◌/◌, ◌%◌, ◌^◌, ◌<◌, ◌≤◌, [], ◌∷◌};
 ghost use Rattle.division.specs.Expansion.{digits};
-ghost use Rattle.division.specs.Sink.{Takes, TakesAll};
+ghost use Rattle.division.specs.Sink.{Takes};
 
 use crate::sink::DigitSink;
 
 pub(crate) fn put<S: DigitSink>(sink: &mut S, digit: u8)
     requires digit { digit < 10 }
     requires some { 0 < S.left sink.old }
-    ensures takes { Takes S.step (S.taken sink.old) (S.left sink.old) (S.held sink.old) digit (S.taken sink.new) (S.left sink.new) (S.held sink.new) }
+    ensures takes { Takes S.DigitSink sink.old (digit ∷ []) sink.new }
     ensures on { S.on sink.old sink.new }
 {
     let _ = sink.offer(digit);
@@ -18,7 +18,7 @@ pub(crate) fn put<S: DigitSink>(sink: &mut S, digit: u8)
 pub(crate) fn put_four<S: DigitSink>(sink: &mut S, number: u16)
     requires number { number < 10_000 }
     requires some { 4 ≤ S.left sink.old }
-    ensures takes { TakesAll S.step (S.taken sink.old) (S.left sink.old) (S.held sink.old) (digits 1 number 4 4) (S.taken sink.new) (S.left sink.new) (S.held sink.new) }
+    ensures takes { Takes S.DigitSink sink.old (digits 1 number 4 4) sink.new }
     ensures on { S.on sink.old sink.new }
 {
     let hundreds = number % 1000;
@@ -36,7 +36,7 @@ fn put_group<S: DigitSink>(sink: &mut S, number: u16, count: u8)
     requires few { count ≤ 4 }
     requires number { number < 10 ^ count }
     requires some { count ≤ S.left sink.old }
-    ensures takes { TakesAll S.step (S.taken sink.old) (S.left sink.old) (S.held sink.old) (digits 1 number count count) (S.taken sink.new) (S.left sink.new) (S.held sink.new) }
+    ensures takes { Takes S.DigitSink sink.old (digits 1 number count count) sink.new }
     ensures on { S.on sink.old sink.new }
 {
     match count {
@@ -86,7 +86,7 @@ pub(crate) fn put_all<S: DigitSink>(sink: &mut S, number: u64, count: u8)
     requires few { count ≤ 20 }
     requires number { number < 10 ^ count }
     requires some { count ≤ S.left sink.old }
-    ensures takes { TakesAll S.step (S.taken sink.old) (S.left sink.old) (S.held sink.old) (digits 1 number count count) (S.taken sink.new) (S.left sink.new) (S.held sink.new) }
+    ensures takes { Takes S.DigitSink sink.old (digits 1 number count count) sink.new }
     ensures on { S.on sink.old sink.new }
 {
     let groups = (count - 1) / 4;

@@ -1,7 +1,6 @@
 // The fraction of a division.
 ghost use Rattle.std.specs.Prelude.{◌≡◌, ◌<◌, ◌≤◌, OnErr};
-ghost use Rattle.division.specs.Block.{Block};
-ghost use Rattle.division.specs.Expansion.{Went, coming};
+ghost use Rattle.division.specs.Block.{Block, Continues};
 ghost use Rattle.division.specs.Resume.{Resumes};
 
 use crate::block::put_four;
@@ -15,7 +14,7 @@ use generic::integer::GenericInteger;
 fn offer_four<T: GenericInteger, S: DigitSink>(remainder: T, divisor: T, sink: &mut S) -> Option<T>
     requires below { T.number remainder < T.number divisor }
     requires some { 4 ≤ S.left sink.old }
-    ensures block { Block T.number S.step (T.number divisor) (T.number remainder) (S.taken sink.old) (S.left sink.old) (S.held sink.old) (S.taken sink.new) (S.left sink.new) (S.held sink.new) result }
+    ensures block { Block T.CountingNumber S.DigitSink divisor remainder sink.old sink.new result }
     ensures on { S.on sink.old sink.new }
 {
     let (four, after) = four_step(remainder, divisor);
@@ -29,7 +28,7 @@ fn offer_four<T: GenericInteger, S: DigitSink>(remainder: T, divisor: T, sink: &
 // Offers the next digits of the fraction one by one until it ends or the sink wants no more, and answers the remainder then.
 fn ones<T: GenericInteger, S: DigitSink>(first: T, divisor: T, sink: &mut S) -> T
     requires { T.number first < T.number divisor }
-    ensures went { Went S.step (T.number divisor) (T.number first) 0 (coming (T.number divisor) (T.number first) (S.left sink.old)) (S.taken sink.old) (S.left sink.old) (S.held sink.old) (S.taken sink.new) (S.left sink.new) (S.held sink.new) (T.number result) 0 }
+    ensures went { Continues T.CountingNumber S.DigitSink divisor first sink.old sink.new result }
     ensures on { S.on sink.old sink.new }
 {
     let mut remainder = first;
@@ -51,7 +50,7 @@ fn ones<T: GenericInteger, S: DigitSink>(first: T, divisor: T, sink: &mut S) -> 
 // The same, with four digits from one division while the sink takes as many and others follow them.
 fn advance<T: GenericInteger, S: DigitSink>(first: T, divisor: T, sink: &mut S) -> T
     requires { T.number first < T.number divisor }
-    ensures went { Went S.step (T.number divisor) (T.number first) 0 (coming (T.number divisor) (T.number first) (S.left sink.old)) (S.taken sink.old) (S.left sink.old) (S.held sink.old) (S.taken sink.new) (S.left sink.new) (S.held sink.new) (T.number result) 0 }
+    ensures went { Continues T.CountingNumber S.DigitSink divisor first sink.old sink.new result }
     ensures on { S.on sink.old sink.new }
 {
     let mut remainder = first;
@@ -64,13 +63,13 @@ fn advance<T: GenericInteger, S: DigitSink>(first: T, divisor: T, sink: &mut S) 
     ones(remainder, divisor, sink)
 }
 
-// Goes on with the fraction, and hands back the state after the digits taken. Refused with 7 where the divisor is 0, and else
+// Continues on with the fraction, and hands back the state after the digits taken. Refused with 7 where the divisor is 0, and else
 // with 8 where the remainder is not below it: nothing is then offered, and the very state is handed back.
 pub fn divide_rem_resume<T: GenericInteger, S: DigitSink>(
     state: DivisionState<T>,
     sink: &mut S,
 ) -> Result<Resumed<T>, Refused<T>>
-    ensures resumes { Resumes T.number S.step state.remainder state.divisor (S.taken sink.old) (S.left sink.old) (S.held sink.old) (S.taken sink.new) (S.left sink.new) (S.held sink.new) result }
+    ensures resumes { Resumes T.CountingNumber S.DigitSink state.remainder state.divisor sink.old sink.new result }
     ensures on { S.on sink.old sink.new }
     ensures unchanged { OnErr result (sink.new ≡ sink.old) }
 {
@@ -99,7 +98,7 @@ pub fn divide_rem<T: GenericInteger, S: DigitSink>(
     divisor: T,
     sink: &mut S,
 ) -> Result<Resumed<T>, Refused<T>>
-    ensures resumes { Resumes T.number S.step remainder divisor (S.taken sink.old) (S.left sink.old) (S.held sink.old) (S.taken sink.new) (S.left sink.new) (S.held sink.new) result }
+    ensures resumes { Resumes T.CountingNumber S.DigitSink remainder divisor sink.old sink.new result }
     ensures on { S.on sink.old sink.new }
     ensures unchanged { OnErr result (sink.new ≡ sink.old) }
 {

@@ -1,7 +1,7 @@
 // Where the digits of a division go.
 ghost use Rattle.std.specs.Prelude.{◌≡◌, ℕ, ◌+◌, ◌≤◌};
 ghost use Rattle.division.specs.Order.{Preorder};
-ghost use Rattle.division.specs.Sink.{Offered};
+ghost use Rattle.division.specs.Tally.{Offered, tally_by};
 
 // What a sink answers to an offered digit.
 #[derive(Clone, Copy, PartialEq, Eq, Debug)]
@@ -36,7 +36,7 @@ pub trait DigitSink {
 
     fn offer(&mut self, digit: u8) -> Answer
         ensures on { on self.old self.new }
-        ensures offered { Offered step (taken self.old) (left self.old) (held self.old) digit (taken self.new) (left self.new) (held self.new) result };
+        ensures offered { Offered step (tally_by taken left held self.old) digit (tally_by taken left held self.new) result };
 
     fn taken(&self) -> u16
         ensures { result ≡ taken self.now };

@@ -1,5 +1,5 @@
 // A sink that writes ASCII digits into a buffer of the caller's, from its front on.
-ghost use Rattle.std.specs.Prelude.{◌≡◌, ◌<◌, min, length, take};
+ghost use Rattle.std.specs.Prelude.{◌≡◌, ◌<◌, min, length, take, [], ◌∷◌};
 ghost use Rattle.division.specs.Digits.{ascii_number};
 ghost use Rattle.division.specs.Sink.{Takes};
 ghost use Rattle.division.specs.Sinks.{text, Stands};
@@ -33,7 +33,7 @@ impl<'a> TextSink<'a> {
         requires digit { digit < 10 }
         requires room { 0 < text.left self.old }
         ensures on { text.on self.old self.new }
-        ensures takes { Takes text.step (text.taken self.old) (text.left self.old) (text.held self.old) digit (text.taken self.new) (text.left self.new) (text.held self.new) }
+        ensures takes { Takes text self.old (digit ∷ []) self.new }
     {
         self.buffer[self.taken as usize] = b'0' + digit;
         self.taken += 1;

@@ -73,7 +73,7 @@ pub fn divide_integral<T: GenericInteger, S: DigitSink>(
     state: IntegralState<T>,
     sink: &mut S,
 ) -> Division<T>
-    ensures went { Integrates T.CountingNumber S.step state (S.taken sink.old) (S.left sink.old) (S.held sink.old) (S.taken sink.new) (S.left sink.new) (S.held sink.new) result }
+    ensures went { Integrates T.CountingNumber S.DigitSink state sink.old sink.new result }
     ensures on { S.on sink.old sink.new }
 {
     // One digit or two cost less one by one.
@@ -87,7 +87,7 @@ pub fn divide_integral<T: GenericInteger, S: DigitSink>(
 // Offers all digits of the whole part that are still to come, from one division, to a sink that takes as many.
 fn at_once<T: GenericInteger, S: DigitSink>(state: IntegralState<T>, sink: &mut S) -> Division<T>
     requires { state.place ≤ S.left sink.old }
-    ensures went { Integrates T.CountingNumber S.step state (S.taken sink.old) (S.left sink.old) (S.held sink.old) (S.taken sink.new) (S.left sink.new) (S.held sink.new) result }
+    ensures went { Integrates T.CountingNumber S.DigitSink state sink.old sink.new result }
     ensures on { S.on sink.old sink.new }
 {
     let (quotient, remainder) = state.rest.div_rem(state.divisor).unwrap();
@@ -102,7 +102,7 @@ fn at_once<T: GenericInteger, S: DigitSink>(state: IntegralState<T>, sink: &mut 
 
 // Offers the next digits of the whole part one by one until it ends or the sink wants no more.
 fn advance<T: GenericInteger, S: DigitSink>(first: IntegralState<T>, sink: &mut S) -> Division<T>
-    ensures went { Integrates T.CountingNumber S.step first (S.taken sink.old) (S.left sink.old) (S.held sink.old) (S.taken sink.new) (S.left sink.new) (S.held sink.new) result }
+    ensures went { Integrates T.CountingNumber S.DigitSink first sink.old sink.new result }
     ensures on { S.on sink.old sink.new }
 {
     let mut state = first;

@@ -19,7 +19,7 @@ loop-groups-init g c =
       omega arith,
       rw c.split-first.ensures.1 (mod-lt c.args.number (ten_pos (4 * groups))),
       omega (arith, c.put_group.ensures.takes.left),
-      remain_all s.step _ _ _ _,
+      remain_all s.step _ _,
       s.order.stays _,
     )
 
@@ -37,7 +37,7 @@ loop-groups-preserved g c =
       omega arith,
       rw c.split-four.ensures.1 (mod-lt c.loop-groups.rest (ten_pos (4 * (c.loop-groups.groups - 1)))),
       omega (arith, takes.left),
-      group_less s.step _ _ _ _ c.loop-groups.rest c.loop-groups.groups c.split-four.result.0 c.split-four.result.1 _ _ _ _ _ _ (omega arith) inv.1 c.split-four.ensures.0 c.split-four.ensures.1 takes inv.3,
+      group_less s.step _ _ c.loop-groups.rest c.loop-groups.groups c.split-four.result.0 c.split-four.result.1 _ _ (omega arith) inv.1 c.split-four.ensures.0 c.split-four.ensures.1 takes inv.3,
       s.order.joins _ _ _ inv.4 c.put_group-in-loop-groups.ensures.on,
     )
 
@@ -47,8 +47,8 @@ returns g c =
     let inv = c.loop-groups.invariant in
     let parts = c.split-first.ensures in
     record {
-      takes = takes_parts s.step c.args.number c.args.count ((c.args.count - 1) / 4) c.split-first.result.0 c.split-first.result.1 _ _ _ _ _ _ _ _ _ (omega arith) c.requires.number parts.0 parts.1
+      takes = takes_parts s.step c.args.number c.args.count ((c.args.count - 1) / 4) c.split-first.result.0 c.split-first.result.1 _ _ _ (omega arith) c.requires.number parts.0 parts.1
           c.put_group.ensures.takes
-          (groups_done s.step _ _ _ _ c.loop-groups.rest c.loop-groups.groups _ _ _ c.loop-groups-test.false inv.3);
+          (groups_done s.step _ _ c.loop-groups.rest c.loop-groups.groups _ c.loop-groups-test.false inv.3);
       on = s.order.joins _ _ _ c.put_group.ensures.on inv.4;
     }

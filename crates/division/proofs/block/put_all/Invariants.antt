@@ -1,5 +1,6 @@
 use Rattle.std.proofs.Common.{◌*◌, ◌^◌, ◌<◌, ◌≤◌}
 use Rattle.division.specs.Expansion.{digits}
+use Rattle.division.specs.Sink.{tally}
 use Rattle.division.proofs.Puts.{Remain}
 use Rattle.division.proofs.block.put_all.Given as goal
 
@@ -11,6 +12,5 @@ invariant-loop-groups g l =
     (l.groups ≤ 4)
     × (l.rest < 10 ^ (4 * l.groups))
     × (4 * l.groups ≤ s.left now)
-    × Remain s.step (s.taken was) (s.left was) (s.held was) (digits 1 l.initial.rest (4 * l.initial.groups) (4 * l.initial.groups))
-    (s.taken now) (s.left now) (s.held now) (digits 1 l.rest (4 * l.groups) (4 * l.groups))
+    × Remain s.step (tally s was) (digits 1 l.initial.rest (4 * l.initial.groups) (4 * l.initial.groups)) (tally s now) (digits 1 l.rest (4 * l.groups) (4 * l.groups))
     × s.on was now

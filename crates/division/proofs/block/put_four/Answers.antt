@@ -1,4 +1,4 @@
-use Rattle.division.proofs.Puts.{takes_one, takes_join, four_left}
+use Rattle.division.proofs.Puts.{takes_join, four_left}
 use Rattle.division.proofs.block.put_four.Goals as goal
 
 pub returns : goal.returns
@@ -8,12 +8,11 @@ returns g c =
     let second = c.put-2.ensures in
     let third = c.put-3.ensures in
     let fourth = c.put-4.ensures in
-    let one = takes_one s.step in
     let joined = takes_join s.step in
     record {
       takes = rw (four_left c.args.number)
-          (joined _ _ _ _ _ _ _ _ _ _ _
-          (joined _ _ _ _ _ _ _ _ _ _ _ (one _ _ _ _ _ _ _ first.takes) (one _ _ _ _ _ _ _ second.takes))
-          (joined _ _ _ _ _ _ _ _ _ _ _ (one _ _ _ _ _ _ _ third.takes) (one _ _ _ _ _ _ _ fourth.takes)));
+          (joined _ _ _ _ _
+          (joined _ _ _ _ _ first.takes second.takes)
+          (joined _ _ _ _ _ third.takes fourth.takes));
       on = s.order.joins _ _ _ (s.order.joins _ _ _ (s.order.joins _ _ _ first.on second.on) third.on) fourth.on;
     }

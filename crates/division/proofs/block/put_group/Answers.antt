@@ -1,5 +1,5 @@
 use Rattle.std.proofs.Common.{◌≡◌, arith}
-use Rattle.division.proofs.Puts.{takes_one, takes_join, two_digits, three_digits, four_digits}
+use Rattle.division.proofs.Puts.{takes_join, two_digits, three_digits, four_digits}
 use Rattle.division.proofs.block.put_group.Goals as goal
 
 pub returns-in-2 : goal.returns-in-2
@@ -10,7 +10,7 @@ returns-in-2 g c =
     let second = c.put-in-2-2.ensures in
     record {
       takes = rw (two, two_digits c.args.number)
-          (takes_join s.step _ _ _ _ _ _ _ _ _ _ _ (takes_one s.step _ _ _ _ _ _ _ first.takes) (takes_one s.step _ _ _ _ _ _ _ second.takes));
+          (takes_join s.step _ _ _ _ _ first.takes second.takes);
       on = s.order.joins _ _ _ first.on second.on;
     }
 
@@ -23,9 +23,9 @@ returns-in-3 g c =
     let third = c.put-in-3-3.ensures in
     record {
       takes = rw (three, three_digits c.args.number)
-          (takes_join s.step _ _ _ _ _ _ _ _ _ _ _
-          (takes_join s.step _ _ _ _ _ _ _ _ _ _ _ (takes_one s.step _ _ _ _ _ _ _ first.takes) (takes_one s.step _ _ _ _ _ _ _ second.takes))
-          (takes_one s.step _ _ _ _ _ _ _ third.takes));
+          (takes_join s.step _ _ _ _ _
+          (takes_join s.step _ _ _ _ _ first.takes second.takes)
+          third.takes);
       on = s.order.joins _ _ _ (s.order.joins _ _ _ first.on second.on) third.on;
     }
 
@@ -37,12 +37,11 @@ returns-in_default g c =
     let second = c.put-in_default-2.ensures in
     let third = c.put-in_default-3.ensures in
     let fourth = c.put-in_default-4.ensures in
-    let one = takes_one s.step in
     let joined = takes_join s.step in
     record {
       takes = rw (four, four_digits c.args.number)
-          (joined _ _ _ _ _ _ _ _ _ _ _
-          (joined _ _ _ _ _ _ _ _ _ _ _ (one _ _ _ _ _ _ _ first.takes) (one _ _ _ _ _ _ _ second.takes))
-          (joined _ _ _ _ _ _ _ _ _ _ _ (one _ _ _ _ _ _ _ third.takes) (one _ _ _ _ _ _ _ fourth.takes)));
+          (joined _ _ _ _ _
+          (joined _ _ _ _ _ first.takes second.takes)
+          (joined _ _ _ _ _ third.takes fourth.takes));
       on = s.order.joins _ _ _ (s.order.joins _ _ _ (s.order.joins _ _ _ first.on second.on) third.on) fourth.on;
     }

@@ -1,5 +1,6 @@
 use Rattle.std.proofs.Common.{◌<◌}
 use Rattle.division.specs.Expansion.{coming}
+use Rattle.division.specs.Sink.{tally}
 use Rattle.division.proofs.Due.{Due}
 use Rattle.division.proofs.fraction.advance.Given as goal
 
@@ -11,8 +12,7 @@ invariant-fours g l =
     let now = l.sink in
     let was = l.initial.sink in
     (number l.remainder < d)
-    × Due s.step d (number l.initial.remainder) 0 (coming d (number l.initial.remainder) (s.left was)) (s.taken was) (s.left was) (s.held was)
-    (number l.remainder) 0 (coming d (number l.remainder) (s.left now)) (s.taken now) (s.left now) (s.held now)
+    × Due s.step d (number l.initial.remainder) 0 (coming d (number l.initial.remainder) (s.left was)) (tally s was) (number l.remainder) 0 (coming d (number l.remainder) (s.left now)) (tally s now)
     × s.on was now
 
 abbrev pub decreases-fours : goal.decreases-fours

@@ -22,7 +22,7 @@ returns g c =
       block = (
         not_zero _ c.if-is_zero.ensures.1,
         omega arith,
-        went_four g.S.DigitSink.step d r c.four_step-four.result.0 _ _ _ _ _ _ _ c.requires.below shared.0 shared.1 c.put_four.ensures.takes,
+        went_four g.S.DigitSink.step d r c.four_step-four.result.0 _ _ _ c.requires.below shared.0 shared.1 c.put_four.ensures.takes,
       );
       on = c.put_four.ensures.on;
     }

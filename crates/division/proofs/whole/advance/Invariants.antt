@@ -1,4 +1,5 @@
 use Rattle.std.proofs.Common.{◌≡◌, min}
+use Rattle.division.specs.Sink.{tally}
 use Rattle.division.proofs.Due.{Due}
 use Rattle.division.proofs.whole.advance.Given as goal
 
@@ -9,8 +10,8 @@ invariant-digits g l =
     let d = number l.state.divisor in
     let now = l.sink in
     let was = l.initial.sink in
-    Due s.step d (number l.initial.state.rest) l.initial.state.place (min (s.left was) l.initial.state.place) (s.taken was) (s.left was) (s.held was)
-    (number l.state.rest) l.state.place (min (s.left now) l.state.place) (s.taken now) (s.left now) (s.held now)
+    Due s.step d (number l.initial.state.rest) l.initial.state.place (min (s.left was) l.initial.state.place) (tally s was)
+    (number l.state.rest) l.state.place (min (s.left now) l.state.place) (tally s now)
     × s.on was now
     × (l.state.divisor ≡ l.initial.state.divisor)
 

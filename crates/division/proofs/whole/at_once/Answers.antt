@@ -32,7 +32,7 @@ returns g c =
         omega (arith, divided.2),
         (
           sound.place,
-          went_whole d sound.divisor g.S.DigitSink.step m state.place c.to_u64.result _ _ _ _ _ _ _ sound.rest c.requires (c.to_u64.ensures ∙ divided.1) divided.2 c.put_all.ensures.takes,
+          went_whole d sound.divisor g.S.DigitSink.step m state.place c.to_u64.result _ _ _ sound.rest c.requires (c.to_u64.ensures ∙ divided.1) divided.2 c.put_all.ensures.takes,
         ),
       );
       on = c.put_all.ensures.on;

@@ -9,5 +9,5 @@ returns c =
     let len = length-set b t (48 + c.args.digit) in
     record {
       on = text_more _ b t c.args.digit (omega arith) (omega arith) (omega arith);
-      takes = record { digit = omega arith; taken = omega arith; left = omega arith; held = ascii_more b t c.args.digit (omega arith) };
+      takes = record { taken = omega arith; left = omega arith; held = ascii_more b t c.args.digit (omega arith) };
     }
