@@ -1,4 +1,6 @@
 // A sink that only counts.
+ghost use Rattle.division.specs.Bounds.{limit_bounded};
+ghost use Rattle.division.specs.Order.{unit_order};
 ghost use Rattle.division.specs.Sinks.{counter, Stands};
 
 use crate::sink::{Answer, DigitSink};
@@ -25,15 +27,11 @@ impl DigitSink for Counter {
 
     ghost left = { counter.left };
 
-    ghost bounded = { counter.bounded };
-
     ghost held = { counter.held };
 
     ghost step = { counter.step };
 
     ghost on = { counter.on };
-
-    ghost order = { counter.order };
 
     fn offer(&mut self, digit: u8) -> Answer {
         if digit > 9 {
@@ -58,4 +56,8 @@ impl DigitSink for Counter {
     fn left(&self) -> u16 {
         self.limit.saturating_sub(self.taken)
     }
+
+    ghost bounded = { λ s. limit_bounded s.taken s.limit };
+
+    ghost order = { unit_order };
 }

@@ -1,5 +1,6 @@
 // A layer over any sink, with a limit of its own.
 ghost use Rattle.std.specs.Prelude.{◌≡◌, min};
+ghost use Rattle.division.specs.Bounds.{cut_bounded};
 ghost use Rattle.division.specs.Sinks.{cut, Stands};
 
 use crate::sink::{Answer, DigitSink};
@@ -33,15 +34,11 @@ impl<S: DigitSink> DigitSink for Cut<S> {
 
     ghost left = { (cut S.DigitSink).left };
 
-    ghost bounded = { (cut S.DigitSink).bounded };
-
     ghost held = { (cut S.DigitSink).held };
 
     ghost step = { (cut S.DigitSink).step };
 
     ghost on = { (cut S.DigitSink).on };
-
-    ghost order = { (cut S.DigitSink).order };
 
     fn offer(&mut self, digit: u8) -> Answer {
         if digit > 9 {
@@ -76,4 +73,8 @@ impl<S: DigitSink> DigitSink for Cut<S> {
     fn left(&self) -> u16 {
         self.below.left().min(self.limit)
     }
+
+    ghost bounded = { λ s. cut_bounded (S.taken s.below) (S.left s.below) s.limit (S.bounded s.below) };
+
+    ghost order = { record { stays = λ s. S.order.stays s.below; joins = λ s t u. S.order.joins s.below t.below u.below } };
 }

@@ -22,8 +22,6 @@ pub trait DigitSink {
 
     ghost left: { Self → ℕ };
 
-    ghost bounded: { (s : Self) → taken s + left s ≤ 65535 };
-
     // A number that the sink makes of its digits, and what one more digit makes of it.
     ghost held: { Self → ℕ };
 
@@ -31,8 +29,6 @@ pub trait DigitSink {
 
     // How the sink goes on as digits come, beyond its numbers.
     ghost on: { Self → Self → Type 0 };
-
-    ghost order: { Preorder on };
 
     fn offer(&mut self, digit: u8) -> Answer
         ensures on { on self.old self.new }
@@ -43,4 +39,8 @@ pub trait DigitSink {
 
     fn left(&self) -> u16
         ensures { result ≡ left self.now };
+
+    ghost bounded: { (s : Self) → taken s + left s ≤ 65535 };
+
+    ghost order: { Preorder on };
 }

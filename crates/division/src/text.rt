@@ -1,5 +1,7 @@
 // A sink that writes ASCII digits into a buffer of the caller's, from its front on.
 ghost use Rattle.std.specs.Prelude.{◌≡◌, ◌<◌, min, length, take, [], ◌∷◌};
+ghost use Rattle.division.specs.Bounds.{limit_bounded};
+ghost use Rattle.division.specs.Order.{text_stays, text_joins};
 ghost use Rattle.division.specs.Digits.{ascii_number};
 ghost use Rattle.division.specs.Sink.{Takes};
 ghost use Rattle.division.specs.Sinks.{text, Stands};
@@ -45,15 +47,11 @@ impl<'a> DigitSink for TextSink<'a> {
 
     ghost left = { text.left };
 
-    ghost bounded = { text.bounded };
-
     ghost held = { text.held };
 
     ghost step = { text.step };
 
     ghost on = { text.on };
-
-    ghost order = { text.order };
 
     fn offer(&mut self, digit: u8) -> Answer {
         if digit > 9 {
@@ -78,4 +76,8 @@ impl<'a> DigitSink for TextSink<'a> {
     fn left(&self) -> u16 {
         (self.buffer.len().min(65535) as u16).saturating_sub(self.taken)
     }
+
+    ghost bounded = { λ s. limit_bounded s.taken (length s.buffer.now) };
+
+    ghost order = { record { stays = λ s. text_stays s.buffer.ghost_name s.buffer.now s.taken; joins = λ s t u. text_joins s.buffer.ghost_name s.buffer.now s.taken t.buffer.ghost_name t.buffer.now t.taken u.buffer.ghost_name u.buffer.now u.taken } };
 }

@@ -20,7 +20,7 @@ loop-groups-init g c =
       rw c.split-first.ensures.1 (mod-lt c.args.number (ten_pos (4 * groups))),
       omega (arith, c.put_group.ensures.takes.left),
       remain_all s.step _ _,
-      s.order.stays _,
+      g.met.S.DigitSink.order.stays _,
     )
 
 pub split-four-requires : goal.split-four-requires
@@ -38,7 +38,7 @@ loop-groups-preserved g c =
       rw c.split-four.ensures.1 (mod-lt c.loop-groups.rest (ten_pos (4 * (c.loop-groups.groups - 1)))),
       omega (arith, takes.left),
       group_less s.step _ _ c.loop-groups.rest c.loop-groups.groups c.split-four.result.0 c.split-four.result.1 _ _ (omega arith) inv.1 c.split-four.ensures.0 c.split-four.ensures.1 takes inv.3,
-      s.order.joins _ _ _ inv.4 c.put_group-in-loop-groups.ensures.on,
+      g.met.S.DigitSink.order.joins _ _ _ inv.4 c.put_group-in-loop-groups.ensures.on,
     )
 
 pub returns : goal.returns
@@ -50,5 +50,5 @@ returns g c =
       takes = takes_parts s.step c.args.number c.args.count ((c.args.count - 1) / 4) c.split-first.result.0 c.split-first.result.1 _ _ _ (omega arith) c.requires.number parts.0 parts.1
           c.put_group.ensures.takes
           (groups_done s.step _ _ c.loop-groups.rest c.loop-groups.groups _ c.loop-groups-test.false inv.3);
-      on = s.order.joins _ _ _ c.put_group.ensures.on inv.4;
+      on = g.met.S.DigitSink.order.joins _ _ _ c.put_group.ensures.on inv.4;
     }

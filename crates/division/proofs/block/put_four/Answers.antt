@@ -14,5 +14,5 @@ returns g c =
           (joined _ _ _ _ _
           (joined _ _ _ _ _ first.takes second.takes)
           (joined _ _ _ _ _ third.takes fourth.takes));
-      on = s.order.joins _ _ _ (s.order.joins _ _ _ (s.order.joins _ _ _ first.on second.on) third.on) fourth.on;
+      on = g.met.S.DigitSink.order.joins _ _ _ (g.met.S.DigitSink.order.joins _ _ _ (g.met.S.DigitSink.order.joins _ _ _ first.on second.on) third.on) fourth.on;
     }

@@ -11,7 +11,7 @@ returns-in-2 g c =
     record {
       takes = rw (two, two_digits c.args.number)
           (takes_join s.step _ _ _ _ _ first.takes second.takes);
-      on = s.order.joins _ _ _ first.on second.on;
+      on = g.met.S.DigitSink.order.joins _ _ _ first.on second.on;
     }
 
 pub returns-in-3 : goal.returns-in-3
@@ -26,7 +26,7 @@ returns-in-3 g c =
           (takes_join s.step _ _ _ _ _
           (takes_join s.step _ _ _ _ _ first.takes second.takes)
           third.takes);
-      on = s.order.joins _ _ _ (s.order.joins _ _ _ first.on second.on) third.on;
+      on = g.met.S.DigitSink.order.joins _ _ _ (g.met.S.DigitSink.order.joins _ _ _ first.on second.on) third.on;
     }
 
 pub returns-in_default : goal.returns-in_default
@@ -43,5 +43,5 @@ returns-in_default g c =
           (joined _ _ _ _ _
           (joined _ _ _ _ _ first.takes second.takes)
           (joined _ _ _ _ _ third.takes fourth.takes));
-      on = s.order.joins _ _ _ (s.order.joins _ _ _ (s.order.joins _ _ _ first.on second.on) third.on) fourth.on;
+      on = g.met.S.DigitSink.order.joins _ _ _ (g.met.S.DigitSink.order.joins _ _ _ (g.met.S.DigitSink.order.joins _ _ _ first.on second.on) third.on) fourth.on;
     }

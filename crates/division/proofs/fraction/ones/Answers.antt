@@ -5,7 +5,7 @@ use Rattle.division.proofs.fraction.ones.Goals as goal
 
 pub digits-init : goal.digits-init
 digits-init g c =
-    (c.requires, due_first g.S.DigitSink.step (g.T.CountingNumber.number c.args.divisor) _ _ _ _, g.S.DigitSink.order.stays c.args.sink.now)
+    (c.requires, due_first g.S.DigitSink.step (g.T.CountingNumber.number c.args.divisor) _ _ _ _, g.met.S.DigitSink.order.stays c.args.sink.now)
 
 pub digits-preserved : goal.digits-preserved
 digits-preserved g c =
@@ -14,7 +14,7 @@ digits-preserved g c =
     let some = not_zero _ c.digits-test.ensures.1 in (
       c.digit_step-digit.ensures.small.1,
       due_fraction g.S.DigitSink.step (g.T.CountingNumber.number c.args.divisor) _ _ _ _ _ _ _ _ _ some exact.0 exact.1 c.in-More.ensures.offered.2 inv.1,
-      g.S.DigitSink.order.joins _ _ _ inv.2 c.in-More.ensures.on,
+      g.met.S.DigitSink.order.joins _ _ _ inv.2 c.in-More.ensures.on,
     )
 
 pub returns-after-digits : goal.returns-after-digits
@@ -35,7 +35,7 @@ returns-in-Enough g c =
     let took = c.in-Enough.ensures.offered in
     record {
       went = due_none step d _ _ _ _ _ _ _ _ (coming_full d _ _ took.1) (due_fraction step d _ _ _ _ _ _ _ _ _ some exact.0 exact.1 took.2 inv.1);
-      on = g.S.DigitSink.order.joins _ _ _ inv.2 c.in-Enough.ensures.on;
+      on = g.met.S.DigitSink.order.joins _ _ _ inv.2 c.in-Enough.ensures.on;
     }
 
 pub returns-in-Full : goal.returns-in-Full
@@ -46,5 +46,5 @@ returns-in-Full g c =
     let full = c.in-Full.ensures.offered in
     record {
       went = due_none step d _ _ _ _ _ _ _ _ (coming_full d _ _ full.1) (due_same step d _ _ _ _ _ _ _ _ _ full.2 inv.1);
-      on = g.S.DigitSink.order.joins _ _ _ inv.2 c.in-Full.ensures.on;
+      on = g.met.S.DigitSink.order.joins _ _ _ inv.2 c.in-Full.ensures.on;
     }

@@ -27,6 +27,6 @@ digits-preserved g c =
     let next = rw unit at divided.2 in (
       rw going.2
           (due_whole g.S.DigitSink.step (number c.digits.state.divisor) _ _ _ _ (number c.digits.state.rest) c.digits.state.place _ c.unwrap-in-digits.result _ _ _ c.digits.state.sound.place (byte.1 ∙ digit) (ap number going.1 ∙ next) going.3 c.in-More.ensures.offered.2 inv.0),
-      g.S.DigitSink.order.joins _ _ _ inv.1 c.in-More.ensures.on,
+      g.met.S.DigitSink.order.joins _ _ _ inv.1 c.in-More.ensures.on,
       going.2 ∙ inv.2,
     )
