@@ -1,5 +1,4 @@
 pub mod Block
-pub mod Bounds
 pub mod Digits
 pub mod Expansion
 pub mod Faults

@@ -8,9 +8,6 @@ pub record Preorder {X : Type 0} (on : X → X → Type 0) : Type 0 where
   pub stays : (x : X) → on x x
   pub joins : (x y z : X) → on x y → on y z → on x z
 
-pub unit_order : {X : Type 0} → Preorder {X = X} (λ x y. Unit {0})
-unit_order = record { stays = λ x. tt; joins = λ x y z p q. tt }
-
 -- The text in the bytes b, k of them, under the lender's name n, goes on to b', k' and n':
 -- ASCII digits come in from k to k', nothing else changes, and the bytes are still the lender's.
 pub record TextOn (n : ℕ) (b : List ℕ) (k n' : ℕ) (b' : List ℕ) (k' : ℕ) : Type 0 where

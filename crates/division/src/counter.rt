@@ -1,6 +1,5 @@
 // A sink that only counts.
-ghost use Rattle.division.specs.Bounds.{limit_bounded};
-ghost use Rattle.division.specs.Order.{unit_order};
+ghost use Rattle.std.proofs.Common.{arith};
 ghost use Rattle.division.specs.Sinks.{counter, Stands};
 
 use crate::sink::{Answer, DigitSink};
@@ -57,7 +56,7 @@ impl DigitSink for Counter {
         self.limit.saturating_sub(self.taken)
     }
 
-    ghost bounded = { λ s. limit_bounded s.taken s.limit };
+    ghost bounded = { λ s. Prim.omega arith };
 
-    ghost order = { unit_order };
+    ghost order = { record { stays = λ s. tt; joins = λ s t u p q. tt } };
 }

@@ -1,6 +1,6 @@
 // A layer over any sink, with a limit of its own.
 ghost use Rattle.std.specs.Prelude.{◌≡◌, min};
-ghost use Rattle.division.specs.Bounds.{cut_bounded};
+ghost use Rattle.std.proofs.Common.{arith};
 ghost use Rattle.division.specs.Sinks.{cut, Stands};
 
 use crate::sink::{Answer, DigitSink};
@@ -74,7 +74,7 @@ impl<S: DigitSink> DigitSink for Cut<S> {
         self.below.left().min(self.limit)
     }
 
-    ghost bounded = { λ s. cut_bounded (S.taken s.below) (S.left s.below) s.limit (S.bounded s.below) };
+    ghost bounded = { λ s. Prim.omega (arith, S.bounded s.below) };
 
     ghost order = { record { stays = λ s. S.order.stays s.below; joins = λ s t u. S.order.joins s.below t.below u.below } };
 }

@@ -1,6 +1,6 @@
 // A sink that writes ASCII digits into a buffer of the caller's, from its front on.
 ghost use Rattle.std.specs.Prelude.{◌≡◌, ◌<◌, min, length, take, [], ◌∷◌};
-ghost use Rattle.division.specs.Bounds.{limit_bounded};
+ghost use Rattle.std.proofs.Common.{arith};
 ghost use Rattle.division.specs.Order.{text_stays, text_joins};
 ghost use Rattle.division.specs.Digits.{ascii_number};
 ghost use Rattle.division.specs.Sink.{Takes};
@@ -77,7 +77,7 @@ impl<'a> DigitSink for TextSink<'a> {
         (self.buffer.len().min(65535) as u16).saturating_sub(self.taken)
     }
 
-    ghost bounded = { λ s. limit_bounded s.taken (length s.buffer.now) };
+    ghost bounded = { λ s. Prim.omega arith };
 
     ghost order = { record { stays = λ s. text_stays s.buffer.ghost_name s.buffer.now s.taken; joins = λ s t u. text_joins s.buffer.ghost_name s.buffer.now s.taken t.buffer.ghost_name t.buffer.now t.taken u.buffer.ghost_name u.buffer.now u.taken } };
 }
