@@ -41,11 +41,7 @@ impl DigitSink for Counter {
             return Answer::Full;
         }
         self.taken += 1;
-        if left == 1 {
-            Answer::Enough
-        } else {
-            Answer::More
-        }
+        Answer::with_left(left - 1)
     }
 
     fn taken(&self) -> u16 {

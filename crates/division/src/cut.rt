@@ -47,22 +47,15 @@ impl<S: DigitSink> DigitSink for Cut<S> {
         if self.limit == 0 {
             return Answer::Full;
         }
-        let limit = self.limit - 1;
-        match self.below.offer(digit) {
-            Answer::NotDigit => Answer::NotDigit,
-            Answer::Full => Answer::Full,
-            Answer::Enough => {
-                self.limit = limit;
-                Answer::Enough
-            }
-            Answer::More => {
-                self.limit = limit;
-                if limit == 0 {
-                    Answer::Enough
-                } else {
-                    Answer::More
-                }
-            }
+        let answer = self.below.offer(digit);
+        if let Answer::NotDigit | Answer::Full = answer {
+            return answer;
+        }
+        self.limit -= 1;
+        if self.limit == 0 {
+            Answer::Enough
+        } else {
+            answer
         }
     }
 

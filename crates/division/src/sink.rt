@@ -1,9 +1,9 @@
 // Where the digits of a division go.
-ghost use Rattle.std.specs.Prelude.{◌≡◌, ℕ, ◌+◌, ◌≤◌};
+ghost use Rattle.std.specs.Prelude.{◌≡◌, ℕ, ◌+◌, ◌≤◌, if◌then◌else◌, nat_eq};
 ghost use Rattle.division.specs.Order.{Preorder};
 ghost use Rattle.division.specs.Tally.{Offered, tally_by};
 
-// What a sink answers to an offered digit.
+// What a sink answers to an offered digit: the four cases that the interface fixes, of which Full is no refusal.
 #[derive(Clone, Copy, PartialEq, Eq, Debug)]
 pub enum Answer {
     // What was offered is above 9.
@@ -14,6 +14,21 @@ pub enum Answer {
     Enough,
     // The digit is taken, and more may follow.
     More,
+}
+
+impl Answer {
+    ghost use Rattle.division.specs.declared.sink.Answer.TheVariants.{Enough, More};
+
+    // The answer that takes a digit, with that many left after it.
+    pub fn with_left(left: u16) -> Answer
+        ensures { result ≡ (if nat_eq left 0 then Enough else More) }
+    {
+        if left == 0 {
+            Answer::Enough
+        } else {
+            Answer::More
+        }
+    }
 }
 
 pub trait DigitSink {

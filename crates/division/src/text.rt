@@ -62,11 +62,7 @@ impl<'a> DigitSink for TextSink<'a> {
             return Answer::Full;
         }
         self.put(digit);
-        if left == 1 {
-            Answer::Enough
-        } else {
-            Answer::More
-        }
+        Answer::with_left(left - 1)
     }
 
     fn taken(&self) -> u16 {
@@ -79,5 +75,5 @@ impl<'a> DigitSink for TextSink<'a> {
 
     ghost bounded = { λ s. Prim.omega arith };
 
-    ghost order = { record { stays = λ s. text_stays s.buffer.ghost_name s.buffer.now s.taken; joins = λ s t u. text_joins s.buffer.ghost_name s.buffer.now s.taken t.buffer.ghost_name t.buffer.now t.taken u.buffer.ghost_name u.buffer.now u.taken } };
+    ghost order = { record { stays = λ s. text_stays _ _ _; joins = λ s t u. text_joins _ _ _ _ _ _ _ _ _ } };
 }
