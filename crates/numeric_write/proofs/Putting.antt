@@ -13,6 +13,7 @@ use Rattle.division.specs.declared.state.Division.{Division}
 use Rattle.division.specs.declared.state.Division.TheVariants.{Whole, Fraction}
 use Rattle.division.specs.declared.integral_state.IntegralState.{IntegralState}
 use Rattle.division.specs.Resume.{Resumes}
+use Rattle.division.specs.declared.sink.DigitSink as DigitSink
 use Rattle.division.specs.declared.state.Resumed.{Resumed}
 use Rattle.division.specs.declared.state.Refused.{Refused}
 use Rattle.division.specs.declared.fault.DivisionFault.{DivisionFault}
@@ -122,17 +123,18 @@ not_refused : (f : DivisionFault) (d m : ℕ) → m < d → Cause f d m → ⊥
 not_refused ZeroDivisor d m lt c = omega arith
 not_refused RemainderNotBelow d m lt c = omega (arith, c.1)
 
-pub accepted : {X : Type 0} (number : X → ℕ) (step : ℕ → ℕ → ℕ) (m d : X) (t l h t' l' h' : ℕ) (r : Result (Resumed X) (Refused X)) → number m < number d → Resumes number step m d t l h t' l' h' r → IsOk r
-accepted number step m d t l h t' l' h' (Ok a) lt i = search rules
-accepted number step m d t l h t' l' h' (Err a) lt i = absurd (not_refused a.fault (number d) (number m) lt i.2.1)
+pub accepted : {X S : Type 0} (t : Ghosts X) (sink : DigitSink.Ghosts S) (m d : X) (a b : S) (r : Result (Resumed X) (Refused X)) → t.number m < t.number d → Resumes t sink m d a b r → IsOk r
+accepted t sink m d a b (Ok x) lt i = search rules
+accepted t sink m d a b (Err x) lt i = absurd (not_refused x.fault (t.number d) (t.number m) lt i.2.1)
 
 -- THE WHOLE PART
 
 -- what going on with the whole part makes of a sink, whether it is paused or ends
-pub integrated : {X : Type 0} (t : Ghosts X) (step : ℕ → ℕ → ℕ) (s : IntegralState X t) (k l h k' l' h' : ℕ) (a : Division X t) → Integrates t step s k l h k' l' h' a
-    → (k' ≡ k + min l s.place) × (h' ≡ fed step h (digits (t.number s.divisor) (t.number s.rest) s.place (min l s.place)))
-integrated t step s k l h k' l' h' (Whole a) i = (i.2.1.taken, i.2.1.held)
-integrated t step s k l h k' l' h' (Fraction a) i = (i.3.1.taken, i.3.1.held)
+pub integrated : {X S : Type 0} (t : Ghosts X) (sink : DigitSink.Ghosts S) (s : IntegralState X t) (a b : S) (x : Division X t) → Integrates t sink s a b x
+    → (sink.taken b ≡ sink.taken a + min (sink.left a) s.place)
+    × (sink.held b ≡ fed sink.step (sink.held a) (digits (t.number s.divisor) (t.number s.rest) s.place (min (sink.left a) s.place)))
+integrated t sink s a b (Whole x) i = (i.2.1.taken, i.2.1.held)
+integrated t sink s a b (Fraction x) i = (i.3.1.taken, i.3.1.held)
 
 -- without the zeros at its end a whole number is its front
 pub held_front : (n d w z front : ℕ) → 0 < d → n < 10 ^ w * d → 4 * z < w → front * 10000 ^ z ≡ n / d → fed shifted 0 (digits d n w (w - 4 * z)) ≡ front

@@ -1,3 +1,4 @@
+pub mod Going
 pub mod Laid
 pub mod Measure
 pub mod Plans

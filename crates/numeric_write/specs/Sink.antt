@@ -1,8 +1,6 @@
 -- The members of a group sink: what it has taken, has left and holds, and how it goes on.
-use Rattle.std.specs.Prelude.{◌≡◌, ℕ, ◌+◌, ◌*◌, ◌%◌, List, refl}
-use Rattle.std.proofs.Common.{◌∙◌}
+use Rattle.std.specs.Prelude.{◌≡◌, ℕ, ◌+◌, ◌*◌, ◌%◌, List}
 use Rattle.division.specs.Digits.{shifted}
-use Rattle.division.specs.Order.{Preorder}
 use Rattle.division.specs.declared.sink.DigitSink.{Ghosts}
 use Rattle.numeric_write.specs.Laid.{Laid, held}
 use Rattle.numeric_write.specs.declared.group_sink.GroupSink.{GroupSink}
@@ -13,21 +11,12 @@ pub record Goes (s t : GroupSink) : Type 0 where
   pub step : (t.places + 3 * t.taken) % 4 ≡ (s.places + 3 * s.taken) % 4
   pub laid : (before : List ℕ) → Laid before s.buffer.now s.count → Laid before t.buffer.now t.count
 
-pub goes_order : Preorder Goes
-goes_order =
-    record {
-      stays = λ s. record { lender = refl; step = refl; laid = λ b h. h };
-      joins = λ s t u p q. record { lender = q.lender ∙ p.lender; step = q.step ∙ p.step; laid = λ b h. q.laid b (p.laid b h) };
-    }
-
 abbrev pub groups : Ghosts GroupSink
 groups =
     record {
       taken = λ s. s.taken;
       left = λ s. s.left;
-      bounded = λ s. s.bound;
       held = λ s. held s.buffer.now s.count s.places s.group;
       step = shifted;
       on = Goes;
-      order = goes_order;
     }

@@ -2,6 +2,7 @@
 ghost use Rattle.std.specs.Prelude.{◌≡◌, ◌-◌, ◌*◌, ◌%◌, ◌<◌, ◌≤◌, length};
 ghost use Rattle.std.specs.List.{flat_map};
 ghost use Rattle.division.specs.Expansion.{coming, rest, Went};
+ghost use Rattle.division.specs.Sink.{tally};
 ghost use Rattle.division.specs.Whole.{Width};
 ghost use Rattle.numeric.specs.Buffer.{placed};
 ghost use Rattle.numeric.specs.Bytes.{word_bytes};
@@ -47,7 +48,7 @@ fn fraction_after<T: GenericInteger, S: DigitSink>(
 ) -> DivisionState<T>
     requires { state.place ≤ S.left sink.old }
     ensures divisor { (result.divisor ≡ state.divisor) × (T.number result.remainder < T.number result.divisor) }
-    ensures went { Went S.step (T.number state.divisor) (T.number state.rest) state.place state.place (S.taken sink.old) (S.left sink.old) (S.held sink.old) (S.taken sink.new) (S.left sink.new) (S.held sink.new) (T.number result.remainder) 0 }
+    ensures went { Went S.step (T.number state.divisor) (T.number state.rest) state.place state.place (tally S.DigitSink sink.old) (tally S.DigitSink sink.new) (T.number result.remainder) 0 }
     ensures on { S.on sink.old sink.new }
 {
     match divide_integral(state, sink) {

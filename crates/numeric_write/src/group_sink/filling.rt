@@ -1,10 +1,10 @@
 // Digits into groups.
-ghost use Rattle.std.specs.Prelude.{◌≡◌, ℕ, ◌+◌, ◌-◌, ◌*◌, ◌/◌, ◌%◌, ◌^◌, ◌<◌, ◌≤◌, min, List, length, if◌then◌else◌, nat_lt};
+ghost use Rattle.std.specs.Prelude.{◌≡◌, ℕ, ◌+◌, ◌-◌, ◌*◌, ◌/◌, ◌%◌, ◌^◌, ◌<◌, ◌≤◌, min, List, [], ◌∷◌, length, if◌then◌else◌, nat_lt};
 ghost use Rattle.division.specs.Sink.{Takes};
 ghost use Rattle.division.specs.Sinks.{Stands};
 ghost use Rattle.numeric_write.specs.Laid.{Laid, Finished, held, filler};
+ghost use Rattle.numeric_write.specs.Going.{goes_order};
 ghost use Rattle.numeric_write.specs.Sink.{groups};
-ghost use Rattle.division.specs.declared.sink.Answer.TheVariants.{More, Enough};
 ghost use Rattle.numeric_write.specs.declared.group_state.GroupState.TheVariants.{Spent};
 
 use crate::group_sink::GroupSink;
@@ -24,17 +24,6 @@ fn first_places(places: u8, left: u16) -> u8
     ensures { result ≡ (if nat_lt 0 left then places % 4 else 0) }
 {
     if 0 < left { places % 4 } else { 0 }
-}
-
-// What a digit that was taken answers, with that many left.
-fn answer(left: u16) -> Answer
-    ensures { result ≡ (if nat_lt 0 left then More else Enough) }
-{
-    if 0 < left {
-        Answer::More
-    } else {
-        Answer::Enough
-    }
 }
 
 impl<'a> GroupSink<'a> {
@@ -63,7 +52,7 @@ impl<'a> GroupSink<'a> {
         requires left { 0 < self.old.left }
         requires empty { (self.old.count ≡ 0) × (self.old.group ≡ 0) }
         ensures on { groups.on self.old self.new }
-        ensures takes { Takes groups.step (groups.taken self.old) (groups.left self.old) (groups.held self.old) 0 (groups.taken self.new) (groups.left self.new) (groups.held self.new) }
+        ensures takes { Takes groups self.old (0 ∷ []) self.new }
     {
         let left = self.left - 1;
         self.places = (self.places + 1) % 4;
@@ -79,7 +68,7 @@ impl<'a> GroupSink<'a> {
         requires places { self.old.places < 3 }
         requires first { self.old.count ≡ 0 → 0 < self.old.group + digit }
         ensures on { groups.on self.old self.new }
-        ensures takes { Takes groups.step (groups.taken self.old) (groups.left self.old) (groups.held self.old) digit (groups.taken self.new) (groups.left self.new) (groups.held self.new) }
+        ensures takes { Takes groups self.old (digit ∷ []) self.new }
     {
         let left = self.left - 1;
         self.group = self.group * 10 + u16::from(digit);
@@ -96,7 +85,7 @@ impl<'a> GroupSink<'a> {
         requires places { self.old.places ≡ 3 }
         requires first { self.old.count ≡ 0 → 0 < self.old.group + digit }
         ensures on { groups.on self.old self.new }
-        ensures takes { Takes groups.step (groups.taken self.old) (groups.left self.old) (groups.held self.old) digit (groups.taken self.new) (groups.left self.new) (groups.held self.new) }
+        ensures takes { Takes groups self.old (digit ∷ []) self.new }
     {
         let left = self.left - 1;
         let group = self.group * 10 + u16::from(digit);
@@ -115,7 +104,7 @@ impl<'a> GroupSink<'a> {
         requires left { 0 < self.old.left }
         requires first { self.old.count ≡ 0 → 0 < self.old.group + digit }
         ensures on { groups.on self.old self.new }
-        ensures takes { Takes groups.step (groups.taken self.old) (groups.left self.old) (groups.held self.old) digit (groups.taken self.new) (groups.left self.new) (groups.held self.new) }
+        ensures takes { Takes groups self.old (digit ∷ []) self.new }
     {
         if self.places < 3 {
             self.push(digit);
@@ -172,15 +161,11 @@ impl<'a> DigitSink for GroupSink<'a> {
 
     ghost left = { groups.left };
 
-    ghost bounded = { groups.bounded };
-
     ghost held = { groups.held };
 
     ghost step = { groups.step };
 
     ghost on = { groups.on };
-
-    ghost order = { groups.order };
 
     fn offer(&mut self, digit: u8) -> Answer {
         match (self.state, digit) {
@@ -190,7 +175,7 @@ impl<'a> DigitSink for GroupSink<'a> {
             (GroupState::Skipping, _) => self.fill(digit),
             (GroupState::Filling, _) => self.fill(digit),
         }
-        answer(self.left)
+        Answer::with_left(self.left)
     }
 
     fn taken(&self) -> u16 {
@@ -200,4 +185,8 @@ impl<'a> DigitSink for GroupSink<'a> {
     fn left(&self) -> u16 {
         self.left
     }
+
+    ghost bounded = { λ s. s.bound };
+
+    ghost order = { goes_order };
 }

@@ -23,7 +23,7 @@ returns-then-passed-eq0 g c =
 pub unwrap-requires : goal.unwrap-requires
 unwrap-requires g c =
     let fraction = c.fraction_after-fraction.result in
-    accepted g.T.CountingNumber.number counter.step fraction.remainder fraction.divisor _ _ _ _ _ _ _ c.fraction_after-fraction.ensures.divisor.1 c.divide_rem_resume.ensures.resumes
+    accepted g.T.CountingNumber counter fraction.remainder fraction.divisor _ _ _ c.fraction_after-fraction.ensures.divisor.1 c.divide_rem_resume.ensures.resumes
 
 pub returns : goal.returns
 returns g c =

@@ -33,7 +33,7 @@ unwrap-resumed-requires g c =
     let is = c.after_zeros-fraction.ensures in
     let fraction = c.after_zeros-fraction.result in
     let small : number fraction.remainder < number fraction.divisor = omega (arith, ap number is.0, is.1, rest_below n d c.args.passed shaped.0 shaped.2, shaped.2) in
-    accepted number groups.step fraction.remainder fraction.divisor _ _ _ _ _ _ _ small c.divide_rem_resume.ensures.resumes
+    accepted g.T.CountingNumber groups fraction.remainder fraction.divisor c.new-sink.result c.divide_rem_resume.new.sink c.divide_rem_resume.result small c.divide_rem_resume.ensures.resumes
 
 pub returns : goal.returns
 returns g c =

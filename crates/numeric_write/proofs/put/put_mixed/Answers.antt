@@ -8,7 +8,7 @@ use Rattle.numeric.specs.Cut.{cut}
 use Rattle.numeric.specs.Package.{groups_of}
 use Rattle.numeric.proofs.Held.{rest_whole, held_cut}
 use Rattle.numeric_write.specs.Measure.{Shaped}
-use Rattle.numeric_write.specs.Sink.{goes_order}
+use Rattle.numeric_write.specs.Going.{goes_order}
 use Rattle.numeric_write.proofs.Putting.{left_mixed, aligned_mixed, ended_fraction}
 use Rattle.numeric_write.proofs.put.put_mixed.Goals as goal
 

@@ -31,7 +31,7 @@ returns g c =
     let rest : c.from.result + 4 * z ≡ w = omega (arith, shaped.3) in
     let left : first.left ≡ k =
     left_whole w z f c.from.result (length c.args.part.now) first.left (before ∙ ap (λ x. (4 - x % 4) % 4) (sym k_is)) rest (omega (arith, shaped.2, c.requires.room)) c.new-sink.ensures.begins.left ∙ k_is in
-    let went = integrated g.T.CountingNumber shifted m.state (groups.taken first) (groups.left first) (groups.held first) (groups.taken last) (groups.left last) (groups.held last) c.divide_integral-rest.result c.divide_integral-rest.ensures.went in
+    let went = integrated g.T.CountingNumber groups m.state first last c.divide_integral-rest.result c.divide_integral-rest.ensures.went in
     let all : min first.left w ≡ k = omega arith in
     let held : groups.held last ≡ front =
     went.1 ∙ ap (λ h. fed shifted h (digits d n w (min first.left w))) c.new-sink.ensures.begins.held ∙ ap (λ x. fed shifted 0 (digits d n w x)) all

@@ -16,7 +16,6 @@ returns c =
         laid = λ b h. rw c.put_word.ensures (laid_more b s.buffer.now s.count (s.group * 10 + c.from.result) h (omega arith) small (λ z. omega (arith, c.requires.first z)));
       };
       takes = record {
-        digit = omega arith;
         taken = omega arith;
         left = omega arith;
         held = ap (λ x. held x (s.count + 1) 0 0) c.put_word.ensures

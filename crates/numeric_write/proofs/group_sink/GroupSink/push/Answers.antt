@@ -29,7 +29,6 @@ returns c =
     record {
       on = record { lender = refl; step = omega arith; laid = λ b h. h };
       takes = record {
-        digit = omega arith;
         taken = omega arith;
         left = omega arith;
         held = held_more s.buffer.now s.count s.places s.group c.from.result

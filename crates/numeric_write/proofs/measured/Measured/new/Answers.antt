@@ -10,8 +10,8 @@ invariant_of-result g c =
     let begun = rw (c.numer.ensures, c.denom.ensures) at (rw c.unwrap-state.ensures at c.open.ensures) in
     let scale = c.measure-extent.ensures.scale in
     record {
-      opened = rw (begun.0, begun.1) begun.2;
-      sized = rw (begun.0, begun.1) (rw c.place.ensures at c.measure-extent.ensures.sized);
-      reached = rw (begun.0, begun.1) (ap (coming d (n % d)) scale ∙ scale_again n d c.args.precision ∙ sym scale);
+      opened = rw (begun.rest, begun.divisor) begun.width;
+      sized = rw (begun.rest, begun.divisor) (rw c.place.ensures at c.measure-extent.ensures.sized);
+      reached = rw (begun.rest, begun.divisor) (ap (coming d (n % d)) scale ∙ scale_again n d c.args.precision ∙ sym scale);
       bounded = omega (arith, scale, scale_bound n d c.args.precision, c.requires.precision.1);
     }
