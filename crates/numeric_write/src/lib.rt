@@ -8,6 +8,7 @@ mod header;
 mod measure;
 mod measured;
 mod plan;
+mod precision;
 mod put;
 mod shape;
 pub mod writer;

@@ -8,6 +8,7 @@ ghost use Rattle.numeric_write.specs.Measure.{Sized, SizedBy, Ending};
 ghost use Rattle.numeric_write.specs.declared.shape.Shape.TheVariants.{Mixed};
 
 use crate::extent::Extent;
+use crate::precision::Precision;
 use crate::shape::Shape;
 use division::counter::Counter;
 use division::fraction::divide_rem;
@@ -20,16 +21,19 @@ use generic::integer::GenericInteger;
 const LONGEST_EXPANSION: u16 = 64;
 
 // Of a fraction that is not 0, of whose whole part `places` digits come.
-pub(crate) fn measure<T: GenericInteger>(ratio: Ratio<T>, places: u8, precision: u16) -> Extent
+pub(crate) fn measure<T: GenericInteger>(
+    ratio: Ratio<T>,
+    places: u8,
+    precision: Precision,
+) -> Extent
     requires some { 0 < T.number ratio.numer }
     requires places { Width (T.number ratio.numer) (T.number ratio.denom) places }
-    requires precision { (0 < precision) × (precision ≤ 16383) }
-    ensures scale { result.scale ≡ scale_of (T.number ratio.numer) (T.number ratio.denom) precision }
+    ensures scale { result.scale ≡ scale_of (T.number ratio.numer) (T.number ratio.denom) precision.digits }
     ensures sized { SizedBy (T.number ratio.numer) (T.number ratio.denom) places result }
 {
     let (n, d) = (ratio.numer(), ratio.denom());
     let (whole, remainder) = n.div_rem(d).unwrap();
-    let scale = fraction_length(remainder, d, precision);
+    let scale = fraction_length(remainder, d, precision.digits);
     if whole.is_zero() {
         return below_one(n, d, scale);
     }

@@ -8,6 +8,7 @@ ghost use Rattle.numeric_write.specs.Props.{Shaped-prop};
 
 use crate::extent::Extent;
 use crate::measure::measure;
+use crate::precision::Precision;
 use division::state::IntegralState;
 use division::whole::open;
 use fraction::ratio::Ratio;
@@ -30,10 +31,9 @@ impl<T: GenericInteger> Measured<T> {
     ghost use Rattle.numeric_write.specs.Plans.{Measures};
 
     // Of a fraction that is not 0.
-    pub(crate) fn new(ratio: Ratio<T>, precision: u16) -> Measured<T>
-        requires some { 0 < T.number ratio.numer }
-        requires precision { (0 < precision) × (precision ≤ 16383) }
-        ensures { Measures T.CountingNumber ratio precision result }
+    pub(crate) fn new(ratio: Ratio<T>, precision: Precision) -> Measured<T>
+        requires { 0 < T.number ratio.numer }
+        ensures { Measures T.CountingNumber ratio precision.digits result }
     {
         let state = open(ratio.numer(), ratio.denom()).unwrap();
         let extent = measure(ratio, state.place(), precision);

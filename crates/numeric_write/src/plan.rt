@@ -1,6 +1,7 @@
 // What is written of a fraction, worked out before anything is put.
 use crate::header::{Header, put_header};
 use crate::measured::Measured;
+use crate::precision::Precision;
 use crate::put::put_groups;
 use fraction::generic_fraction::GenericFraction;
 use fraction::ratio::Ratio;
@@ -16,17 +17,15 @@ pub(crate) enum Plan<T: GenericInteger> {
 }
 
 impl<T: GenericInteger> Plan<T> {
-    ghost use Rattle.std.specs.Prelude.{◌≡◌, ◌<◌, ◌≤◌, length};
+    ghost use Rattle.std.specs.Prelude.{◌≡◌, ◌≤◌, length};
     ghost use Rattle.fraction.specs.Meaning.{meant, rational};
     ghost use Rattle.numeric.specs.Buffer.{bytes_needed, placed};
     ghost use Rattle.numeric.specs.Bytes.{package_bytes};
     ghost use Rattle.numeric.specs.Package.{written};
     ghost use Rattle.numeric_write.specs.Plans.{planned};
 
-    // At a precision that is in force.
-    pub(crate) fn new(source: &GenericFraction<T>, precision: u16) -> Plan<T>
-        requires { (0 < precision) × (precision ≤ 16383) }
-        ensures { planned result ≡ written (meant source.now) precision }
+    pub(crate) fn new(source: &GenericFraction<T>, precision: Precision) -> Plan<T>
+        ensures { planned result ≡ written (meant source.now) precision.digits }
     {
         match *source {
             GenericFraction::Rational(sign, ratio) => Plan::of_ratio(sign, ratio, precision),
@@ -36,9 +35,8 @@ impl<T: GenericInteger> Plan<T> {
     }
 
     // A zero of either sign is plus.
-    fn of_ratio(sign: Sign, ratio: Ratio<T>, precision: u16) -> Plan<T>
-        requires { (0 < precision) × (precision ≤ 16383) }
-        ensures { planned result ≡ written (rational sign (T.number ratio.numer) (T.number ratio.denom)) precision }
+    fn of_ratio(sign: Sign, ratio: Ratio<T>, precision: Precision) -> Plan<T>
+        ensures { planned result ≡ written (rational sign (T.number ratio.numer) (T.number ratio.denom)) precision.digits }
     {
         if ratio.numer().is_zero() {
             return Plan::Bare(SignWord::Plus);

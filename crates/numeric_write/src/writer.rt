@@ -5,9 +5,10 @@ ghost use Rattle.fraction.specs.Meaning.{meant};
 ghost use Rattle.numeric.specs.Buffer.{Outcome, free};
 ghost use Rattle.numeric.specs.Faithful.{WritingFaithful};
 ghost use Rattle.numeric.specs.Faults.{refusal};
-ghost use Rattle.numeric.specs.Package.{precision_in_force, written};
+ghost use Rattle.numeric.specs.Package.{written};
 
 use crate::plan::Plan;
+use crate::precision::Precision;
 use fraction::generic_fraction::GenericFraction;
 use generic::integer::GenericInteger;
 use numeric::fault::PackageFault;
@@ -24,7 +25,7 @@ pub fn fraction_to_sql_buf<T: GenericInteger>(
     ensures outcome { Outcome (written (meant source.now) precision) buffer.old used.old buffer.new used.new result }
     ensures faithful { WritingFaithful }
 {
-    let plan = Plan::new(source, in_force(precision));
+    let plan = Plan::new(source, Precision::in_force(precision));
     let start = *used;
     let needed = plan.bytes_needed();
     check_room(buffer, start, needed)?;
@@ -43,13 +44,6 @@ pub fn to_sql<T: GenericInteger>(
     ensures faithful { WritingFaithful }
 {
     fraction_to_sql_buf(source, buffer, used, PG_MAX_PRECISION)
-}
-
-// The precision that counts: at most the greatest, and 0 as 1.
-fn in_force(precision: usize) -> u16
-    ensures { result ≡ precision_in_force precision }
-{
-    precision.min(PG_MAX_PRECISION).max(1) as u16
 }
 
 // Refused where the bytes needed exceed those that are free behind the used ones.

@@ -61,43 +61,6 @@ impl<'a> GroupSink<'a> {
         self.state = after(GroupState::Skipping, left);
     }
 
-    // A digit that leaves the group open.
-    fn push(&mut self, digit: u8)
-        requires digit { digit < 10 }
-        requires left { 0 < self.old.left }
-        requires places { self.old.places < 3 }
-        requires first { self.old.count ≡ 0 → 0 < self.old.group + digit }
-        ensures on { groups.on self.old self.new }
-        ensures takes { Takes groups self.old (digit ∷ []) self.new }
-    {
-        let left = self.left - 1;
-        self.group = self.group * 10 + u16::from(digit);
-        self.places += 1;
-        self.taken += 1;
-        self.left = left;
-        self.state = after(GroupState::Filling, left);
-    }
-
-    // A digit that ends the group.
-    fn close(&mut self, digit: u8)
-        requires digit { digit < 10 }
-        requires left { 0 < self.old.left }
-        requires places { self.old.places ≡ 3 }
-        requires first { self.old.count ≡ 0 → 0 < self.old.group + digit }
-        ensures on { groups.on self.old self.new }
-        ensures takes { Takes groups self.old (digit ∷ []) self.new }
-    {
-        let left = self.left - 1;
-        let group = self.group * 10 + u16::from(digit);
-        put_word(self.buffer, 2 * self.count, group);
-        self.count += 1;
-        self.group = 0;
-        self.places = 0;
-        self.taken += 1;
-        self.left = left;
-        self.state = after(GroupState::Filling, left);
-    }
-
     // A digit of which a group is filled; before the first group, not a zero.
     fn fill(&mut self, digit: u8)
         requires digit { digit < 10 }
@@ -106,11 +69,21 @@ impl<'a> GroupSink<'a> {
         ensures on { groups.on self.old self.new }
         ensures takes { Takes groups self.old (digit ∷ []) self.new }
     {
+        let left = self.left - 1;
+        let state = after(GroupState::Filling, left);
+        let group = self.group * 10 + u16::from(digit);
         if self.places < 3 {
-            self.push(digit);
+            self.group = group;
+            self.places += 1;
         } else {
-            self.close(digit);
+            put_word(self.buffer, 2 * self.count, group);
+            self.count += 1;
+            self.group = 0;
+            self.places = 0;
         }
+        self.taken += 1;
+        self.left = left;
+        self.state = state;
     }
 
     // Fills the last group with zeros on the right, and ends the sink.

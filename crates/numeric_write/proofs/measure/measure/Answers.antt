@@ -15,7 +15,7 @@ below_one-requires g c =
     let rest : r ≡ n = divided.2 ∙ below_rest n d small in
     rw (c.numer-n.ensures, c.denom-d.ensures) record {
       fraction = (c.requires.some, small);
-      scale = (omega (arith, scale_some d r c.args.precision (omega (arith, c.requires.some)) c.requires.precision.0), omega (arith, scale_within d r c.args.precision, c.requires.precision.1));
+      scale = (omega (arith, scale_some d r c.args.precision.digits (omega (arith, c.requires.some)) c.args.precision.some), omega (arith, scale_within d r c.args.precision.digits, c.args.precision.most));
     }
 
 pub returns-then-is_zero : goal.returns-then-is_zero
@@ -29,7 +29,7 @@ returns-then-is_zero g c =
     let sized = rw (c.numer-n.ensures, c.denom-d.ensures) at c.below_one.ensures.1 in
     let same = c.below_one.ensures.0 in
     record {
-      scale = same ∙ scale_from n d c.args.precision r c.fraction_length-scale.result divided.2 length;
+      scale = same ∙ scale_from n d c.args.precision.digits r c.fraction_length-scale.result divided.2 length;
       sized = subst (λ s. Sized n d c.args.places s is.shape is.groups is.weight) (sym same) (sized c.args.places);
     }
 
@@ -59,7 +59,7 @@ returns-then-scale-eq0 g c =
     subst (λ y. Sized y 1 w 0 is.shape is.groups is.weight) divided.1 c.whole_number.ensures.1 in
     let above : 0 < n / d = omega (arith, some, divided.1) in
     record {
-      scale = same ∙ sym c.if-scale-eq0.true ∙ scale_from n d c.args.precision r c.fraction_length-scale.result divided.2 length;
+      scale = same ∙ sym c.if-scale-eq0.true ∙ scale_from n d c.args.precision.digits r c.fraction_length-scale.result divided.2 length;
       sized = subst (λ s. Sized n d w s is.shape is.groups is.weight) (sym same) (sized_quotient n d w is.groups is.shape is.weight (above_is n d c.args.ratio.positive above) above quotient);
     }
 
@@ -68,7 +68,7 @@ mixed-requires g c =
     let d : ℕ = g.T.CountingNumber.number c.args.ratio.denom in
     let length = rw c.denom-d.ensures at c.fraction_length-scale.ensures in
     let r : ℕ = g.T.CountingNumber.number c.unwrap-whole.result.1 in
-    (c.requires.places.some, omega (arith, length, scale_within d r c.args.precision, c.requires.precision.1))
+    (c.requires.places.some, omega (arith, length, scale_within d r c.args.precision.digits, c.args.precision.most))
 
 pub returns : goal.returns
 returns g c =
@@ -84,7 +84,7 @@ returns g c =
     let above : 0 < n / d = omega (arith, some, divided.1) in
     let more : 0 < s = omega (arith, c.if-scale-eq0.false) in
     record {
-      scale = c.mixed.ensures.1 ∙ scale_from n d c.args.precision r s divided.2 length;
+      scale = c.mixed.ensures.1 ∙ scale_from n d c.args.precision.digits r s divided.2 length;
       sized = sized_as n d w s c.mixed.result.shape c.mixed.result.scale c.mixed.result.groups c.mixed.result.weight c.mixed.ensures
           (sized_mixed n d s w c.args.ratio.positive (λ z. omega arith) (above_is n d c.args.ratio.positive above) c.requires.places more);
     }

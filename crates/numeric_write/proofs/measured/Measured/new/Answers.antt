@@ -12,6 +12,6 @@ invariant_of-result g c =
     record {
       opened = rw (begun.rest, begun.divisor) begun.width;
       sized = rw (begun.rest, begun.divisor) (rw c.place.ensures at c.measure-extent.ensures.sized);
-      reached = rw (begun.rest, begun.divisor) (ap (coming d (n % d)) scale ∙ scale_again n d c.args.precision ∙ sym scale);
-      bounded = omega (arith, scale, scale_bound n d c.args.precision, c.requires.precision.1);
+      reached = rw (begun.rest, begun.divisor) (ap (coming d (n % d)) scale ∙ scale_again n d c.args.precision.digits ∙ sym scale);
+      bounded = omega (arith, scale, scale_bound n d c.args.precision.digits, c.args.precision.most);
     }

@@ -8,7 +8,7 @@ use Rattle.numeric_write.proofs.plan.Plan.of_ratio.Goals as goal
 
 pub returns-then-is_zero : goal.returns-then-is_zero
 returns-then-is_zero g c =
-    sym (written_zero c.args.sign _ _ c.args.precision (rw c.numer.ensures at (c.is_zero.ensures.0 c.if-is_zero.true)))
+    sym (written_zero c.args.sign _ _ c.args.precision.digits (rw c.numer.ensures at (c.is_zero.ensures.0 c.if-is_zero.true)))
 
 pub returns : goal.returns
 returns g c =
@@ -16,7 +16,7 @@ returns g c =
     let n : ℕ = number c.args.ratio.numer in
     let d : ℕ = number c.args.ratio.denom in
     let sign = c.args.sign in
-    let p : ℕ = c.args.precision in
+    let p : ℕ = c.args.precision.digits in
     let m = c.new.result in
     let is = c.new.ensures in
     let some : n ≡ 0 → ⊥ = λ z. apart c.is_zero.result (c.is_zero.ensures.1 (rw c.numer.ensures z)) c.if-is_zero.false in
@@ -24,4 +24,4 @@ returns g c =
     ∙ ap (λ x. package_of (sign_word sign) (cut (number x) (number m.state.divisor) m.extent.scale) m.extent.scale) is.rest
     ∙ ap (λ x. package_of (sign_word sign) (cut n (number x) m.extent.scale) m.extent.scale) is.divisor
     ∙ ap (λ s. package_of (sign_word sign) (cut n d s) s) is.scale
-    ∙ sym (written_some sign n d p c.requires.0 c.requires.1 some)
+    ∙ sym (written_some sign n d p c.args.precision.some c.args.precision.most some)
