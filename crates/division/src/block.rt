@@ -3,7 +3,7 @@ ghost use Rattle.std.specs.Prelude.{◌≡◌, ◌*◌, ◌/◌, ◌%◌, ◌^�
 ghost use Rattle.division.specs.Expansion.{digits};
 ghost use Rattle.division.specs.Sink.{Takes};
 
-use crate::sink::DigitSink;
+use crate::sink::{Answer, DigitSink};
 
 pub(crate) fn put<S: DigitSink>(sink: &mut S, digit: u8)
     requires digit { digit < 10 }
@@ -11,7 +11,10 @@ pub(crate) fn put<S: DigitSink>(sink: &mut S, digit: u8)
     ensures takes { Takes S.DigitSink sink.old (digit ∷ []) sink.new }
     ensures on { S.on sink.old sink.new }
 {
-    let _ = sink.offer(digit);
+    // That it is taken is said to the compiler too: with `let _`, a digit of the fraction costs up to two thirds more.
+    if let Answer::NotDigit | Answer::Full = sink.offer(digit) {
+        unreachable()
+    }
 }
 
 // The four digits of a number below ten thousand, highest first, each from what those above it leave.

@@ -41,7 +41,7 @@ impl DigitSink for Counter {
             return Answer::Full;
         }
         self.taken += 1;
-        Answer::with_left(left - 1)
+        Answer::taking(left)
     }
 
     fn taken(&self) -> u16 {

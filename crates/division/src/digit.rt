@@ -2,6 +2,7 @@
 ghost use Rattle.std.specs.Prelude.{◌≡◌, ◌*◌, ◌/◌, ◌%◌, ◌<◌};
 
 use generic::integer::GenericInteger;
+use std::cmp::Ordering;
 
 // The next digit of the fraction r over d, and the remainder after it.
 pub(crate) fn digit_step<T: GenericInteger>(r: T, d: T) -> (u8, T)
@@ -42,12 +43,13 @@ fn corrected_step<T: GenericInteger>(r: T, d: T) -> (u8, T)
         let owed = digit * unit;
         let tens = (owed + 9) / 10;
         let whole = T::from_u16(u16::from(tens));
-        if rest.compare(whole).is_ge() {
+        if let Ordering::Less = rest.compare(whole) {
+            digit -= 1;
+            rest = rest.checked_add(tenth).unwrap();
+        } else {
             let over = T::from_u16(u16::from(tens * 10 - owed));
             let tenfold = rest.checked_sub(whole).unwrap().checked_mul(ten).unwrap();
             break (digit, tenfold.checked_add(over).unwrap());
         }
-        digit -= 1;
-        rest = rest.checked_add(tenth).unwrap();
     }
 }

@@ -19,11 +19,11 @@ pub enum Answer {
 impl Answer {
     ghost use Rattle.division.specs.declared.sink.Answer.TheVariants.{Enough, More};
 
-    // The answer that takes a digit, with that many left after it.
-    pub fn with_left(left: u16) -> Answer
-        ensures { result ≡ (if nat_eq left 0 then Enough else More) }
+    // The answer that takes a digit, with that many left before it.
+    pub fn taking(left: u16) -> Answer
+        ensures { result ≡ (if nat_eq left 1 then Enough else More) }
     {
-        if left == 0 {
+        if left == 1 {
             Answer::Enough
         } else {
             Answer::More

@@ -62,7 +62,7 @@ impl<'a> DigitSink for TextSink<'a> {
             return Answer::Full;
         }
         self.put(digit);
-        Answer::with_left(left - 1)
+        Answer::taking(left)
     }
 
     fn taken(&self) -> u16 {
