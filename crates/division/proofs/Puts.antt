@@ -111,7 +111,7 @@ takes_parts step n k g q r a b c some below eq er first second =
 pub four_left : (n : ℕ) → digits 1 n 4 4 ≡ n / 1000 ∷ n % 1000 / 100 ∷ n % 1000 % 100 / 10 ∷ n % 1000 % 100 % 10 ∷ []
 four_left n = ap (λ z. n / 1000 ∷ n % 1000 / 100 ∷ n % 1000 % 100 / 10 ∷ z ∷ []) (div-one (n % 1000 % 100 % 10))
 
--- The digits of a number of two, three and four, each from the number itself.
+-- The digits of a number of two and of three, each from the number itself.
 pub two_digits : (n : ℕ) → digits 1 n 2 2 ≡ n / 10 ∷ n % 10 ∷ []
 two_digits n = ap (λ z. n / 10 ∷ z ∷ []) (div-one (n % 10))
 
@@ -123,11 +123,3 @@ units n = div-one (n % 100 % 10) ∙ remainder_left 10 (omega arith) n 1
 
 pub three_digits : (n : ℕ) → digits 1 n 3 3 ≡ n / 100 ∷ n / 10 % 10 ∷ n % 10 ∷ []
 three_digits n = ap (λ z. n / 100 ∷ z ∷ n % 100 % 10 / 1 ∷ []) (tens n) ∙ ap (λ z. n / 100 ∷ n / 10 % 10 ∷ z ∷ []) (units n)
-
-pub four_digits : (n : ℕ) → digits 1 n 4 4 ≡ n / 1000 ∷ n / 100 % 10 ∷ n / 10 % 10 ∷ n % 10 ∷ []
-four_digits n =
-    let low : n % 1000 % 100 ≡ n % 100 = remainder_left 100 (omega arith) n 1 in
-    ap (λ z. n / 1000 ∷ z ∷ n % 1000 % 100 / 10 ∷ n % 1000 % 100 % 10 / 1 ∷ []) (quotient_left 100 (omega arith) n 1)
-    ∙ ap (λ z. n / 1000 ∷ n / 100 % 10 ∷ z / 10 ∷ z % 10 / 1 ∷ []) low
-    ∙ ap (λ z. n / 1000 ∷ n / 100 % 10 ∷ z ∷ n % 100 % 10 / 1 ∷ []) (tens n)
-    ∙ ap (λ z. n / 1000 ∷ n / 100 % 10 ∷ n / 10 % 10 ∷ z ∷ []) (units n)

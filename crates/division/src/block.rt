@@ -32,8 +32,8 @@ pub(crate) fn put_four<S: DigitSink>(sink: &mut S, number: u16)
     put(sink, (tens % 10) as u8);
 }
 
-// As many digits of a number below ten to their count, one to four, highest first. Each comes from the number itself, so that
-// none waits for another.
+// As many digits of a number below ten to their count, one to four, highest first. Each count is written out, so that each
+// divisor is a constant, by which the compiler makes no division.
 fn put_group<S: DigitSink>(sink: &mut S, number: u16, count: u8)
     requires any { 0 < count }
     requires few { count ≤ 4 }
@@ -53,12 +53,7 @@ fn put_group<S: DigitSink>(sink: &mut S, number: u16, count: u8)
             put(sink, (number / 10 % 10) as u8);
             put(sink, (number % 10) as u8);
         }
-        _ => {
-            put(sink, (number / 1000) as u8);
-            put(sink, (number / 100 % 10) as u8);
-            put(sink, (number / 10 % 10) as u8);
-            put(sink, (number % 10) as u8);
-        }
+        _ => put_four(sink, number),
     }
 }
 

@@ -1,5 +1,5 @@
 use Rattle.std.proofs.Common.{◌≡◌, arith}
-use Rattle.division.proofs.Puts.{takes_join, two_digits, three_digits, four_digits}
+use Rattle.division.proofs.Puts.{takes_join, two_digits, three_digits}
 use Rattle.division.proofs.block.put_group.Goals as goal
 
 pub returns-in-2 : goal.returns-in-2
@@ -27,21 +27,4 @@ returns-in-3 g c =
           (takes_join s.step _ _ _ _ _ first.takes second.takes)
           third.takes);
       on = g.met.S.DigitSink.order.joins _ _ _ (g.met.S.DigitSink.order.joins _ _ _ first.on second.on) third.on;
-    }
-
-pub returns-in_default : goal.returns-in_default
-returns-in_default g c =
-    let s = g.S.DigitSink in
-    let four : c.args.count ≡ 4 = omega arith in
-    let first = c.put-in_default.ensures in
-    let second = c.put-in_default-2.ensures in
-    let third = c.put-in_default-3.ensures in
-    let fourth = c.put-in_default-4.ensures in
-    let joined = takes_join s.step in
-    record {
-      takes = rw (four, four_digits c.args.number)
-          (joined _ _ _ _ _
-          (joined _ _ _ _ _ first.takes second.takes)
-          (joined _ _ _ _ _ third.takes fourth.takes));
-      on = g.met.S.DigitSink.order.joins _ _ _ (g.met.S.DigitSink.order.joins _ _ _ (g.met.S.DigitSink.order.joins _ _ _ first.on second.on) third.on) fourth.on;
     }
