@@ -9,9 +9,6 @@ pub record SameDivisors (x y a b : ℕ) : Type 0 where
   pub back : (e : ℕ) → e ∣ x → e ∣ y → (e ∣ a) × (e ∣ b)
   pub forth : (e : ℕ) → e ∣ a → e ∣ b → (e ∣ x) × (e ∣ y)
 
-pub same_start : (a b : ℕ) → SameDivisors a b a b
-same_start a b = record { back = λ e p q. (p, q); forth = λ e p q. (p, q) }
-
 -- one division with remainder
 pub same_more : (x y a b r : ℕ) → r ≡ x % y → SameDivisors x y a b → SameDivisors y r a b
 same_more x y a b r rest same =

@@ -1,2 +1,1 @@
 pub mod Euclid
-pub mod Shares

@@ -7,7 +7,7 @@ use crate::sign::Sign;
 
 // Plus and the same number in another type; None exactly when it passes that type's greatest.
 pub fn read_generic_integer<T: GenericInteger, F: GenericInteger>(from: F) -> Option<(Sign, T)>
-    ensures { PlusExactly T.CountingNumber.number result (F.CountingNumber.number from ≤ T.CountingNumber.greatest) (F.CountingNumber.number from) }
+    ensures { PlusExactly T.number result (F.number from ≤ T.greatest) (F.number from) }
 {
     Some((Sign::Plus, T::from_u64(from.to_u64())?))
 }

@@ -6,7 +6,7 @@ use std::cmp::Ordering;
 
 // The greater number goes first: the other way round, Euclid's first division would only exchange the two.
 pub fn gcd<T: GenericInteger>(a: T, b: T) -> T
-    ensures { GreatestDivisor (T.CountingNumber.number result) (T.CountingNumber.number a) (T.CountingNumber.number b) }
+    ensures { GreatestDivisor (T.number result) (T.number a) (T.number b) }
 {
     match a.compare(b) {
         Ordering::Less => euclid(b, a),
@@ -16,7 +16,7 @@ pub fn gcd<T: GenericInteger>(a: T, b: T) -> T
 
 // Euclid's algorithm.
 fn euclid<T: GenericInteger>(a: T, b: T) -> T
-    ensures { GreatestDivisor (T.CountingNumber.number result) (T.CountingNumber.number a) (T.CountingNumber.number b) }
+    ensures { GreatestDivisor (T.number result) (T.number a) (T.number b) }
 {
     let mut x = a;
     let mut y = b;

@@ -10,7 +10,7 @@ mod arithmetic;
 mod conversion;
 pub mod integer;
 
-#[derive(Clone, Copy, PartialEq, Eq, Debug)]
+#[derive(Clone, Copy, PartialEq, Eq, PartialOrd, Ord, Debug)]
 pub struct PackedDecimal {
     word: u64,
     // No four bits are above 9.
@@ -18,6 +18,7 @@ pub struct PackedDecimal {
 }
 
 // Four bits are above 9 where their 8 stands together with their 4 or their 2.
+#[tactic(auto, using(crate::proofs::Flags::tells_digits), unfolding(crate::proofs::Flags::above_nine))]
 fn all_digits(word: u64) -> bool
     ensures { Decides result (AllDigits 16 word) }
 {

@@ -1,60 +1,12 @@
-// Order, sums, differences and tenfolds of packed decimals, on whole words.
-ghost use Rattle.std.specs.Prelude.{◌≡◌, ◌+◌, ◌-◌, ◌*◌, ◌/◌, ◌%◌, ◌<◌, ◌≤◌, true, Decides};
-ghost use Rattle.std.specs.Ordering.{MatchOrdering};
+// Tenfolds of packed decimals, and quotients below ten, on whole words.
+ghost use Rattle.std.specs.Prelude.{◌≡◌, ◌*◌, ◌/◌, ◌%◌, ◌<◌, ◌≤◌, true};
 ghost use Rattle.generic.specs.Exact.{Exactly};
 ghost use Rattle.packed.specs.Digits.{decimal};
 
 use super::PackedDecimal;
-use std::cmp::Ordering;
-
-// 6 in each digit but the highest: with it a digit above 9 carries into the next four bits.
-const SIXES: u64 = 0x0666_6666_6666_6666;
-
-// The lowest bit of each digit but the highest.
-const LOWEST: u64 = 0x0111_1111_1111_1111;
+use generic::integer::GenericInteger;
 
 impl PackedDecimal {
-    // The words stand in the order of their numbers.
-    pub(super) fn order(self, other: PackedDecimal) -> Ordering
-        ensures { MatchOrdering result (decimal 16 self.word < decimal 16 other.word) (decimal 16 self.word ≡ decimal 16 other.word) (decimal 16 other.word < decimal 16 self.word) }
-    {
-        self.word.cmp(&other.word)
-    }
-
-    // Sixteen digits write 0 only where each is 0.
-    pub(super) fn all_zero(self) -> bool
-        ensures { Decides result (decimal 16 self.word ≡ 0) }
-    {
-        self.word == 0
-    }
-
-    // None exactly when the sum passes the greatest.
-    pub(super) fn sum(self, other: PackedDecimal) -> Option<PackedDecimal>
-        ensures { Exactly (λ p. decimal 16 p.word) result (decimal 16 self.word + decimal 16 other.word ≤ 9_999_999_999_999_999) (decimal 16 self.word + decimal 16 other.word) }
-    {
-        let biased = self.word + SIXES;
-        let sum = biased.checked_add(other.word)?;
-        if sum >> 60 > 9 {
-            return None;
-        }
-        // Where a digit carried, the bit above it is not the one that adding without carries would give.
-        let carried = ((biased ^ other.word ^ sum) >> 4) & LOWEST;
-        Some(PackedDecimal {
-            word: sum - (SIXES - 6 * carried),
-        })
-    }
-
-    // None exactly when the difference is below 0.
-    pub(super) fn difference(self, other: PackedDecimal) -> Option<PackedDecimal>
-        ensures { Exactly (λ p. decimal 16 p.word) result (decimal 16 other.word ≤ decimal 16 self.word) (decimal 16 self.word - decimal 16 other.word) }
-    {
-        let difference = self.word.checked_sub(other.word)?;
-        let borrowed = ((self.word ^ other.word ^ difference) >> 4) & LOWEST;
-        Some(PackedDecimal {
-            word: difference - 6 * borrowed,
-        })
-    }
-
     // None exactly when ten times the number passes the greatest.
     pub(super) fn tenfold(self) -> Option<PackedDecimal>
         ensures { Exactly (λ p. decimal 16 p.word) result (decimal 16 self.word * 10 ≤ 9_999_999_999_999_999) (decimal 16 self.word * 10) }
@@ -72,7 +24,7 @@ impl PackedDecimal {
         ensures { result ≡ true → decimal 16 self.word < decimal 16 by.word * 10 }
     {
         match by.tenfold() {
-            Some(tenfold) => self.word < tenfold.word,
+            Some(tenfold) => self < tenfold,
             None => true,
         }
     }
@@ -86,7 +38,7 @@ impl PackedDecimal {
     {
         let mut times = 0;
         let mut rest = self;
-        while let Some(less) = rest.difference(by) {
+        while let Some(less) = rest.checked_sub(by) {
             rest = less;
             times += 1;
         }

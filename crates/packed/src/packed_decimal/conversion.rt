@@ -5,6 +5,7 @@ ghost use Rattle.packed.specs.Digits.{Writes, decimal};
 use super::PackedDecimal;
 
 // The number that two digits write: 16 × tens + units, less 6 × tens.
+#[tactic(auto, unfolding(crate::specs::Digits::decimal))]
 fn two(word: u64) -> u64
     requires { word < 0x100 }
     ensures value { result ≡ decimal 2 word }
@@ -30,12 +31,13 @@ fn eight(word: u64) -> u64
 }
 
 // The number that sixteen digits write.
-fn sixteen(word: u64) -> u64
+pub(super) fn sixteen(word: u64) -> u64
     ensures { result ≡ decimal 16 word }
 {
     eight(word / 0x1_0000_0000) * 100_000_000 + eight(word % 0x1_0000_0000)
 }
 
+#[tactic(auto, using(crate::proofs::Halves::writes_two))]
 fn pack_two(n: u64) -> u64
     requires { n < 100 }
     ensures { Writes 2 result n }
@@ -65,13 +67,6 @@ fn pack_sixteen(n: u64) -> u64
 }
 
 impl PackedDecimal {
-    pub(super) fn number(self) -> u64
-        ensures value { result ≡ decimal 16 self.word }
-        ensures bound { result ≤ 9_999_999_999_999_999 }
-    {
-        sixteen(self.word)
-    }
-
     // The sixteen digits of a number that has a place.
     pub(super) fn pack(n: u64) -> PackedDecimal
         requires { n ≤ 9_999_999_999_999_999 }

@@ -4,6 +4,7 @@ ghost use Rattle.std.proofs.Common.{arith, rules};
 ghost use Rattle.packed.specs.Decimals.{decimal_lt};
 
 use super::PackedDecimal;
+use super::conversion::sixteen;
 use generic::counting::CountingNumber;
 use generic::integer::GenericInteger;
 use std::cmp::Ordering;
@@ -11,6 +12,12 @@ use std::cmp::Ordering;
 const GREATEST: u64 = 9_999_999_999_999_999;
 
 const TEN: u64 = 0x10;
+
+// 6 in each digit but the highest: with it a digit above 9 carries into the next four bits.
+const SIXES: u64 = 0x0666_6666_6666_6666;
+
+// The lowest bit of each digit but the highest.
+const LOWEST: u64 = 0x0111_1111_1111_1111;
 
 impl CountingNumber for PackedDecimal {
     ghost number = { λ p. decimal 16 p.word };
@@ -21,16 +28,10 @@ impl CountingNumber for PackedDecimal {
 
     ghost widest = { Prim.search rules };
 
-    fn zero() -> PackedDecimal {
-        PackedDecimal::pack(0)
-    }
-
-    fn one() -> PackedDecimal {
-        PackedDecimal::pack(1)
-    }
+    ghost one_fits = { Prim.search rules };
 
     fn to_u64(self) -> u64 {
-        self.number()
+        sixteen(self.word)
     }
 
     fn from_u64(n: u64) -> Option<PackedDecimal> {
@@ -41,32 +42,41 @@ impl CountingNumber for PackedDecimal {
         }
     }
 
+    // The words stand in the order of their numbers.
+    #[tactic(auto, using(crate::proofs::Decimals::decimal_ranked))]
     fn compare(self, other: PackedDecimal) -> Ordering {
-        self.order(other)
+        self.cmp(&other)
     }
 
+    // Sixteen digits write 0 only where each is 0.
+    #[tactic(auto, using(crate::proofs::Sixteen::tells_zero))]
     fn is_zero(self) -> bool {
-        self.all_zero()
+        self.word == 0
     }
 
     fn checked_add(self, other: PackedDecimal) -> Option<PackedDecimal> {
-        self.sum(other)
+        let biased = self.word + SIXES;
+        let sum = biased.checked_add(other.word)?;
+        if sum >> 60 > 9 {
+            return None;
+        }
+        // Where a digit carried, the bit above it is not the one that adding without carries would give.
+        let carried = ((biased ^ other.word ^ sum) >> 4) & LOWEST;
+        Some(PackedDecimal {
+            word: sum - (SIXES - 6 * carried),
+        })
     }
 }
 
 impl GenericInteger for PackedDecimal {
     ghost words = { Prim.search rules };
 
-    fn ten() -> PackedDecimal {
-        PackedDecimal::pack(10)
-    }
-
-    fn from_u16(word: u16) -> PackedDecimal {
-        PackedDecimal::pack(u64::from(word))
-    }
-
     fn checked_sub(self, other: PackedDecimal) -> Option<PackedDecimal> {
-        self.difference(other)
+        let difference = self.word.checked_sub(other.word)?;
+        let borrowed = ((self.word ^ other.word ^ difference) >> 4) & LOWEST;
+        Some(PackedDecimal {
+            word: difference - 6 * borrowed,
+        })
     }
 
     // Times ten is a shift.
@@ -77,37 +87,23 @@ impl GenericInteger for PackedDecimal {
         if self.word == TEN {
             return other.tenfold();
         }
-        PackedDecimal::from_u64(self.number().checked_mul(other.number())?)
-    }
-
-    fn checked_div(self, by: PackedDecimal) -> Option<PackedDecimal> {
-        let quotient = self.number().checked_div(by.number())?;
-        Some(PackedDecimal::pack(quotient))
+        PackedDecimal::from_u64(self.to_u64().checked_mul(other.to_u64())?)
     }
 
     // A number below the divisor is the remainder as it stands, and a quotient below ten leaves the digits packed.
+    #[tactic(auto, using(crate::specs::Decimals::decimal_lt))]
     fn div_rem(self, by: PackedDecimal) -> Option<(PackedDecimal, PackedDecimal)> {
-        if self.word < by.word {
+        if self < by {
             return Some((PackedDecimal::zero(), self));
         }
-        if by.all_zero() {
+        if by.is_zero() {
             return None;
         }
         if self.below_ten_times(by) {
             return Some(self.few_times(by));
         }
-        let n = self.number();
-        let d = by.number();
+        let n = self.to_u64();
+        let d = by.to_u64();
         Some((PackedDecimal::pack(n / d), PackedDecimal::pack(n % d)))
-    }
-
-    // Through the numbers: the machine's own division by a number of the type.
-    fn scaled(self, word: u16, by: PackedDecimal) -> Option<(u16, PackedDecimal)> {
-        let (quotient, remainder) = self.number().scaled(word, by.number())?;
-        Some((quotient, PackedDecimal::pack(remainder)))
-    }
-
-    fn to_u8(self) -> Option<u8> {
-        u8::try_from(self.number()).ok()
     }
 }

@@ -1,8 +1,5 @@
-use Rattle.generic.proofs.Euclid.{same_start, same_more, same_end}
+use Rattle.generic.proofs.Euclid.{same_more, same_end}
 use Rattle.generic.proofs.divisor.euclid.Goals as goal
-
-pub loop-rest-init : goal.loop-rest-init
-loop-rest-init g c = same_start _ _
 
 pub loop-rest-preserved : goal.loop-rest-preserved
 loop-rest-preserved g c = same_more _ _ _ _ _ c.in-Some.ensures.2 c.loop-rest.invariant

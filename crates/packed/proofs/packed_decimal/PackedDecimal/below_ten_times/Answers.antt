@@ -1,12 +1,12 @@
-use Rattle.std.proofs.Common.{arith}
-use Rattle.std.proofs.lemmas.Bool.{ltb-true}
+use Rattle.std.proofs.Common.{◌<◌, arith, rules}
 use Rattle.packed.specs.Decimals.{decimal_lt}
 use Rattle.packed.proofs.Sixteen.{lesser}
 use Rattle.packed.proofs.packed_decimal.PackedDecimal.below_ten_times.Goals as goal
 
 pub returns-in-Some : goal.returns-in-Some
 returns-in-Some c test =
-    let less = lesser c.args.self.word c.in-Some.tenfold.word c.args.self.digits c.in-Some.tenfold.digits (omega arith) (omega arith) (ltb-true _ _ test) in
+    let word : c.args.self.word < c.in-Some.tenfold.word = search rules in
+    let less = lesser c.args.self.word c.in-Some.tenfold.word c.args.self.digits c.in-Some.tenfold.digits (omega arith) (omega arith) word in
     omega (arith, less, c.in-Some.ensures.1)
 
 pub returns-in-None : goal.returns-in-None

@@ -1,7 +1,7 @@
 use Rattle.std.proofs.Common.{arith}
 use Rattle.packed.proofs.Carries.{changed}
 use Rattle.packed.proofs.Sixteen.{lesser, borrowed_fits, difference_digits, difference_value}
-use Rattle.packed.proofs.packed_decimal.PackedDecimal.difference.Goals as goal
+use Rattle.packed.proofs.packed_decimal.integer.PackedDecimalGenericInteger.checked_sub.Goals as goal
 
 pub returns-in_err-difference : goal.returns-in_err-difference
 returns-in_err-difference c =
