@@ -20,6 +20,7 @@ impl PackedDecimal {
     }
 
     // Whether the quotient by a divisor that is not 0 is below ten.
+    #[tactic(auto, using(crate::specs::Decimals::decimal_lt))]
     pub(super) fn below_ten_times(self, by: PackedDecimal) -> bool
         ensures { result ≡ true → decimal 16 self.word < decimal 16 by.word * 10 }
     {

@@ -1,4 +1,5 @@
 // A packed decimal's number, and the digits of a number: halves, quarters and pairs of digits instead of one by one.
+// Each size has a function of its own: one function that calls itself on half the digits takes ten times as long.
 ghost use Rattle.std.specs.Prelude.{◌≡◌, ◌<◌, ◌≤◌};
 ghost use Rattle.packed.specs.Digits.{Writes, decimal};
 

@@ -1,5 +1,4 @@
 use Rattle.std.proofs.Common.{◌<◌, arith, rules}
-use Rattle.packed.specs.Decimals.{decimal_lt}
 use Rattle.packed.proofs.Sixteen.{lesser}
 use Rattle.packed.proofs.packed_decimal.PackedDecimal.below_ten_times.Goals as goal
 
@@ -8,8 +7,3 @@ returns-in-Some c test =
     let word : c.args.self.word < c.in-Some.tenfold.word = search rules in
     let less = lesser c.args.self.word c.in-Some.tenfold.word c.args.self.digits c.in-Some.tenfold.digits (omega arith) (omega arith) word in
     omega (arith, less, c.in-Some.ensures.1)
-
-pub returns-in-None : goal.returns-in-None
-returns-in-None c same =
-    let least = c.in-None.ensures in
-    omega (arith, least, decimal_lt 16 c.args.self.word c.args.self.digits)

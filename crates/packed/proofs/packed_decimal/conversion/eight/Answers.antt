@@ -2,5 +2,5 @@ use Rattle.std.proofs.Common.{arith}
 use Rattle.packed.proofs.Halves.{decimal_halves}
 use Rattle.packed.proofs.packed_decimal.conversion.eight.Goals as goal
 
-pub returns : goal.returns
-returns c = record { value = omega (arith, decimal_halves 4 4 c.args.word); bound = omega arith }
+pub returns-clause-value : goal.returns-clause-value
+returns-clause-value c = omega (arith, decimal_halves 4 4 c.args.word)

@@ -1,10 +1,7 @@
 use Rattle.std.proofs.Common.{refl, arith}
 use Rattle.packed.proofs.Carries.{changed}
-use Rattle.packed.proofs.Sixteen.{highest, sum_passes, sum_digits, sum_value, sum_fits}
+use Rattle.packed.proofs.Sixteen.{sum_passes, sum_digits, sum_value, sum_fits}
 use Rattle.packed.proofs.packed_decimal.integer.PackedDecimalCountingNumber.checked_add.Goals as goal
-
-pub overflow_add-biased : goal.overflow_add-biased
-overflow_add-biased c = record { fits = omega (arith, highest c.args.self.word c.args.self.digits (omega arith)) }
 
 pub returns-in_err-sum : goal.returns-in_err-sum
 returns-in_err-sum c =
