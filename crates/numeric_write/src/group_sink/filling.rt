@@ -141,14 +141,14 @@ impl<'a> DigitSink for GroupSink<'a> {
     ghost on = { groups.on };
 
     fn offer(&mut self, digit: u8) -> Answer {
+        let left = self.left;
         match (self.state, digit) {
             (_, 10..) => return Answer::NotDigit,
             (GroupState::Spent, _) => return Answer::Full,
             (GroupState::Skipping, 0) => self.skip(),
-            (GroupState::Skipping, _) => self.fill(digit),
-            (GroupState::Filling, _) => self.fill(digit),
+            (GroupState::Skipping | GroupState::Filling, _) => self.fill(digit),
         }
-        Answer::with_left(self.left)
+        Answer::taking(left)
     }
 
     fn taken(&self) -> u16 {
