@@ -1,27 +1,21 @@
 // Why a run ends before its input does.
-use std::{fmt, io};
+use std::io;
+use thiserror::Error;
 
-#[derive(Drop)]
+#[derive(Debug, Drop, Error)]
 pub enum Failure {
+    #[error("cannot read the arguments: {0}")]
     Arguments(io::Error),
+    #[error("unknown option {0}; --help says what there is")]
     UnknownOption(String),
+    #[error("more than one file; --help says what is read")]
     SeveralFiles,
+    #[error("cannot open {0}: {1}")]
     Open(String, io::Error),
+    #[error("out of memory")]
+    Memory,
+    #[error("cannot read the records: {0}")]
     Read(io::Error),
+    #[error("cannot write the packages: {0}")]
     Write(io::Error),
-}
-
-impl fmt::Display for Failure {
-    fn fmt<W: fmt::Write>(&self, f: &mut fmt::Formatter<W>) -> fmt::Result {
-        match self {
-            Failure::Arguments(error) => write!(f, "cannot read the arguments: {error}"),
-            Failure::UnknownOption(option) => {
-                write!(f, "unknown option {option}; --help says what there is")
-            }
-            Failure::SeveralFiles => write!(f, "more than one file; --help says what is read"),
-            Failure::Open(path, error) => write!(f, "cannot open {path}: {error}"),
-            Failure::Read(error) => write!(f, "cannot read the records: {error}"),
-            Failure::Write(error) => write!(f, "cannot write the packages: {error}"),
-        }
-    }
 }

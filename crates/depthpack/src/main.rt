@@ -56,7 +56,7 @@ enum Command {
 fn run(rt: &HostRuntime) -> Result<(), Failure> {
     let tally = match read_command(rt)? {
         Command::Help => return help(rt),
-        Command::PackInput => stream::pack_records(&mut rt.stdin(), &mut rt.stdout())?,
+        Command::PackInput => stream::pack_records(rt.alloc(), &mut rt.stdin(), rt.stdout())?,
         Command::PackFile(path) => pack_file(rt, path)?,
     };
     let _ = eprintln!(rt; "depthpack: {tally}");
@@ -64,32 +64,22 @@ fn run(rt: &HostRuntime) -> Result<(), Failure> {
 }
 
 fn help(rt: &HostRuntime) -> Result<(), Failure> {
-    match rt.print(HELP) {
-        Ok(()) => Ok(()),
-        Err(error) => Err(Failure::Write(error)),
-    }
+    rt.print(HELP).map_err(Failure::Write)
 }
 
 fn pack_file(rt: &HostRuntime, path: String) -> Result<Tally, Failure> {
-    match fs::open(rt, path.as_str()) {
-        Ok(mut file) => stream::pack_records(&mut file, &mut rt.stdout()),
-        Err(error) => Err(Failure::Open(path, error)),
-    }
+    let mut file = fs::open(rt, path.as_str()).map_err(|error| Failure::Open(path, error))?;
+    stream::pack_records(rt.alloc(), &mut file, rt.stdout())
 }
 
 // What the arguments ask for.
 fn read_command(rt: &HostRuntime) -> Result<Command, Failure> {
-    let mut args = match env::args(rt) {
-        Ok(args) => args,
-        Err(error) => return Err(Failure::Arguments(error)),
+    let mut words = env::args(rt).map_err(Failure::Arguments)?.skip(1);
+    let word = match (words.next(), words.next()) {
+        (None, _) => return Ok(Command::PackInput),
+        (Some(word), None) => word,
+        (Some(_), Some(_)) => return Err(Failure::SeveralFiles),
     };
-    let _program = args.next();
-    let Some(word) = args.next() else {
-        return Ok(Command::PackInput);
-    };
-    if args.next().is_some() {
-        return Err(Failure::SeveralFiles);
-    }
     match word.as_str() {
         "--help" => Ok(Command::Help),
         "-" => Ok(Command::PackInput),

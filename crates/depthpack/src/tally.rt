@@ -2,10 +2,11 @@
 ghost use Rattle.std.specs.Prelude.{◌≡◌};
 ghost use Rattle.depthpack.specs.Tallies.{none, counted};
 
-use record::verdict::Verdict;
+use record::fault::RecordFault;
+use record::request::Request;
 use std::fmt;
 
-#[derive(Clone, Copy)]
+#[derive(Clone, Copy, Debug)]
 pub struct Tally {
     packed: u64,
     refused: u64,
@@ -26,24 +27,26 @@ impl Tally {
     }
 
     // One record more.
-    pub fn count(&mut self, verdict: Verdict)
-        ensures { self.new ≡ counted verdict self.old }
+    pub fn count(&mut self, judged: Result<Request, RecordFault>)
+        ensures { self.new ≡ counted judged self.old }
     {
-        match verdict {
-            Verdict::Pack(_, _) => self.packed = self.packed.saturating_add(1),
-            Verdict::Refused(_) => self.refused = self.refused.saturating_add(1),
-            Verdict::Bad => self.bad = self.bad.saturating_add(1),
-            Verdict::Short => self.short = self.short.saturating_add(1),
+        match judged {
+            Ok(_) => self.packed = self.packed.saturating_add(1),
+            Err(RecordFault::Refused(_)) => self.refused = self.refused.saturating_add(1),
+            Err(RecordFault::Bad) => self.bad = self.bad.saturating_add(1),
+            Err(RecordFault::Short) => self.short = self.short.saturating_add(1),
         }
     }
 }
 
 impl fmt::Display for Tally {
     fn fmt<W: fmt::Write>(&self, f: &mut fmt::Formatter<W>) -> fmt::Result {
-        let packed = self.packed;
-        let refused = self.refused;
-        let bad = self.bad;
-        let short = self.short;
+        let Tally {
+            packed,
+            refused,
+            bad,
+            short,
+        } = self;
         write!(
             f,
             "packed {packed}, refused {refused}, bad {bad}, short {short}"

@@ -3,4 +3,4 @@ pub mod Depths
 pub mod Faults
 pub mod Kinds
 pub mod Numbers
-pub mod Verdicts
+pub mod Requests

@@ -1,16 +1,30 @@
-// Why the numbers of a record are refused.
+// Why a record is refused.
 ghost use Rattle.std.specs.Prelude.{◌≡◌};
 ghost use Rattle.record.specs.Faults.{refusal};
 ghost use Rattle.record.specs.declared.fault.InputFault.TheVariants.{NotDecimal};
+ghost use Rattle.record.specs.declared.fault.RecordFault.TheVariants.{Refused};
 
 use packed::fault::PackedFault;
+use std::error::Error;
+use std::fmt;
 
+// Why the numbers of a record are refused.
 #[derive(Clone, Copy, PartialEq, Eq, Debug)]
 pub enum InputFault {
     // Four bits of a packed decimal are above 9.
     NotDecimal,
     // A number passes the greatest of the record's type.
     DoesNotFit,
+}
+
+// Why a record asks for no package.
+#[derive(Clone, Copy, PartialEq, Eq, Debug)]
+pub enum RecordFault {
+    Refused(InputFault),
+    // No type or no sign of the format.
+    Bad,
+    // Fewer bytes than a record has.
+    Short,
 }
 
 impl InputFault {
@@ -34,3 +48,28 @@ impl From<PackedFault> for InputFault {
         }
     }
 }
+
+impl From<InputFault> for RecordFault {
+    ghost from_gives = { λ f r. r ≡ Refused f };
+
+    fn from(fault: InputFault) -> RecordFault {
+        RecordFault::Refused(fault)
+    }
+}
+
+impl fmt::Display for RecordFault {
+    ghost use Rattle.std.specs.Prelude.{Some};
+    ghost use Rattle.record.specs.Faults.{line_of};
+
+    ghost output = { λ fault. Some (line_of fault) };
+
+    fn fmt<W: fmt::Write>(&self, f: &mut fmt::Formatter<W>) -> fmt::Result {
+        match self {
+            RecordFault::Refused(fault) => write!(f, "refused {}", fault.number()),
+            RecordFault::Bad => f.write_str("bad record"),
+            RecordFault::Short => f.write_str("short record"),
+        }
+    }
+}
+
+impl Error for RecordFault {}

@@ -3,7 +3,7 @@ ghost use Rattle.std.specs.Prelude.{◌≡◌};
 ghost use Rattle.record.specs.Numbers.{up_to, packed_number, number_of};
 ghost use Rattle.record.specs.Kinds.{kind_of};
 
-use crate::fault::InputFault;
+use crate::fault::{InputFault, RecordFault};
 use generic::counting::CountingNumber;
 use generic::integer::GenericInteger;
 use packed::packed_decimal::PackedDecimal;
@@ -16,20 +16,24 @@ pub enum Kind {
     Packed,
 }
 
-impl Kind {
-    // The type that a record's first byte names.
-    pub fn of_byte(byte: u8) -> Option<Kind>
-        ensures { result ≡ kind_of byte }
-    {
+// The type that a record's first byte names.
+impl TryFrom<u8> for Kind {
+    type Error = RecordFault;
+
+    ghost try_from_gives = { λ byte r. r ≡ kind_of byte };
+
+    fn try_from(byte: u8) -> Result<Kind, RecordFault> {
         match byte {
-            1 => Some(Kind::U16),
-            2 => Some(Kind::U32),
-            3 => Some(Kind::U64),
-            4 => Some(Kind::Packed),
-            _ => None,
+            1 => Ok(Kind::U16),
+            2 => Ok(Kind::U32),
+            3 => Ok(Kind::U64),
+            4 => Ok(Kind::Packed),
+            _ => Err(RecordFault::Bad),
         }
     }
+}
 
+impl Kind {
     // The number that a word of 64 bits writes in this type.
     pub fn read(self, word: u64) -> Result<u64, InputFault>
         ensures { result ≡ number_of self word }
@@ -47,13 +51,12 @@ impl Kind {
 fn read_number<T: GenericInteger>(word: u64) -> Result<u64, InputFault>
     ensures { result ≡ up_to T.CountingNumber.greatest word }
 {
-    match T::from_u64(word) {
-        Some(number) => Ok(number.to_u64()),
-        None => Err(InputFault::DoesNotFit),
-    }
+    let number = T::from_u64(word).ok_or(InputFault::DoesNotFit)?;
+    Ok(number.to_u64())
 }
 
 // The number that sixteen decimal digits write.
+#[tactic(auto, using(crate::proofs::PackedWords::packed_number_lem, crate::proofs::PackedWords::no_packed_number))]
 fn read_packed(word: u64) -> Result<u64, InputFault>
     ensures { result ≡ packed_number word }
 {
