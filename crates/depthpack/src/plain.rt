@@ -2,8 +2,8 @@
 // A package is four words (number of groups, weight, sign, scale) and then groups of four decimal digits, each a word.
 ghost use Rattle.std.specs.Prelude.{◌≡◌, ◌+◌, ◌*◌, ◌/◌, ◌%◌, ◌<◌, ◌≤◌};
 
+use fraction::generic_fraction::GenericFraction;
 use generic::sign::Sign;
-use record::depth::Depth;
 use record::request::Request;
 
 // The longest line: four words, five groups of a whole part and 4,096 of a fraction, four digits each, and the line's end.
@@ -34,13 +34,12 @@ struct Header {
 // Puts the package's line at the start of `text`, four hexadecimal digits a word, and answers it.
 pub fn package_line(text: &mut [u8; LONGEST], request: Request) -> &[u8] {
     let header = match request.depth {
-        Depth::NaN => bare(NAN),
-        Depth::Infinity(Sign::Plus) => bare(PLUS_INFINITY),
-        Depth::Infinity(Sign::Minus) => bare(MINUS_INFINITY),
-        // No record comes to a fraction over 0.
-        Depth::Rational(_, _, 0) => bare(NAN),
-        Depth::Rational(_, 0, _) => bare(PLUS),
-        Depth::Rational(sign, n, d) => put_groups(text, sign, n, d, request.precision),
+        GenericFraction::NaN => bare(NAN),
+        GenericFraction::Infinity(Sign::Plus) => bare(PLUS_INFINITY),
+        GenericFraction::Infinity(Sign::Minus) => bare(MINUS_INFINITY),
+        GenericFraction::Rational(sign, ratio) => {
+            put_groups(text, sign, ratio.numer(), ratio.denom(), request.precision)
+        }
     };
     put_header(text, header);
     let end = 4 * usize::from(HEADER_WORDS + header.groups);
@@ -74,11 +73,14 @@ fn put_word(text: &mut [u8; LONGEST], place: u16, word: u16)
     hex::encode_to_slice(word.to_be_bytes(), &mut text[at..at + 4]).unwrap()
 }
 
-// Puts the groups of n over d, neither of them 0, behind the header, and answers their header.
+// Puts the groups of n over d behind the header, and answers their header. A zero of either sign has none, and is plus.
 fn put_groups(text: &mut [u8; LONGEST], sign: Sign, n: u64, d: u64, precision: u16) -> Header
     requires { 0 < d }
     ensures { result.groups ≤ 4_101 }
 {
+    if n == 0 {
+        return bare(PLUS);
+    }
     let whole = n / d;
     let whole_groups = put_whole(text, whole);
     let limit = precision.clamp(1, GREATEST_PRECISION);

@@ -1,26 +1,18 @@
 // The depth that a record holds.
 ghost use Rattle.std.specs.Prelude.{◌≡◌};
+ghost use Rattle.fraction.specs.Meaning.{meant};
 ghost use Rattle.record.specs.Depths.{depth};
 
+use fraction::generic_fraction::GenericFraction;
 use generic::sign::Sign;
 
-#[derive(Clone, Copy, PartialEq, Eq, Debug)]
-pub enum Depth {
-    // Sign, numerator and denominator; the denominator is not 0, and the terms are as they came.
-    Rational(Sign, u64, u64),
-    Infinity(Sign),
-    NaN,
-}
-
-impl Depth {
-    // Over 0, a numerator is an infinity of the sign, and 0 is no number.
-    pub(crate) fn new(sign: Sign, numerator: u64, denominator: u64) -> Depth
-        ensures { result ≡ depth sign numerator denominator }
-    {
-        match (numerator, denominator) {
-            (0, 0) => Depth::NaN,
-            (_, 0) => Depth::Infinity(sign),
-            _ => Depth::Rational(sign, numerator, denominator),
-        }
+// The terms as they came. Over 0, a numerator is an infinity of the sign, and 0 is no number.
+pub fn depth_of(sign: Sign, numerator: u64, denominator: u64) -> GenericFraction<u64>
+    ensures { meant result ≡ depth sign numerator denominator }
+{
+    match GenericFraction::new_raw_signed(sign, numerator, denominator) {
+        Ok(fraction) => fraction,
+        Err(_) if numerator == 0 => GenericFraction::NaN,
+        Err(_) => GenericFraction::Infinity(sign),
     }
 }

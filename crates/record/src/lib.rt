@@ -1,7 +1,7 @@
 // A depth record of twenty bytes, and what it asks for.
 #![tactic(auto)]
 
-pub mod depth;
+mod depth;
 pub mod fault;
 mod kind;
 pub mod request;

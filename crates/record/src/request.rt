@@ -2,17 +2,18 @@
 ghost use Rattle.std.specs.Prelude.{◌≡◌, ◌+◌, ◌≤◌, take, drop};
 ghost use Rattle.record.specs.Bytes.{bytes_number};
 ghost use Rattle.record.specs.Kinds.{sign_of};
-ghost use Rattle.record.specs.Requests.{request};
+ghost use Rattle.record.specs.Requests.{asked, request};
 
-use crate::depth::Depth;
+use crate::depth::depth_of;
 use crate::fault::RecordFault;
 use crate::kind::Kind;
+use fraction::generic_fraction::GenericFraction;
 use generic::sign::Sign;
 
 // A depth to pack, and how many fractional digits are asked for.
 #[derive(Clone, Copy, PartialEq, Eq, Debug)]
 pub struct Request {
-    pub depth: Depth,
+    pub depth: GenericFraction<u64>,
     pub precision: u16,
 }
 
@@ -21,7 +22,7 @@ pub const RECORD_BYTES: usize = 20;
 
 // Bytes beyond the record are not looked at. The numerator is judged before the denominator.
 pub fn judge(bytes: &[u8]) -> Result<Request, RecordFault>
-    ensures { result ≡ request bytes.now }
+    ensures { asked result ≡ request bytes.now }
 {
     let record: &[u8; RECORD_BYTES] = bytes.first_chunk().ok_or(RecordFault::Short)?;
     let kind = Kind::try_from(record[0])?;
@@ -29,7 +30,7 @@ pub fn judge(bytes: &[u8]) -> Result<Request, RecordFault>
     let numerator = kind.read(number_at(record, 4))?;
     let denominator = kind.read(number_at(record, 12))?;
     Ok(Request {
-        depth: Depth::new(sign, numerator, denominator),
+        depth: depth_of(sign, numerator, denominator),
         precision: word_at(record, 2),
     })
 }
