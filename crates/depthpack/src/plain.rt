@@ -4,39 +4,28 @@ ghost use Rattle.std.specs.Prelude.{◌≡◌, ◌+◌, ◌*◌, ◌/◌, ◌%�
 
 use fraction::generic_fraction::GenericFraction;
 use generic::sign::Sign;
+use numeric::layout::PG_MAX_PRECISION;
+use numeric::sign_word::SignWord;
 use record::request::Request;
 
 // The longest line: four words, five groups of a whole part and 4,096 of a fraction, four digits each, and the line's end.
 pub const LONGEST: usize = 16_421;
 
-const GREATEST_PRECISION: u16 = 16_383;
-
 const HEADER_WORDS: u16 = 4;
-
-const PLUS: u16 = 0x0000;
-
-const MINUS: u16 = 0x4000;
-
-const NAN: u16 = 0xC000;
-
-const PLUS_INFINITY: u16 = 0xD000;
-
-const MINUS_INFINITY: u16 = 0xF000;
 
 #[derive(Clone, Copy)]
 struct Header {
     groups: u16,
     weight: i16,
-    sign: u16,
+    sign: SignWord,
     scale: u16,
 }
 
 // Puts the package's line at the start of `text`, four hexadecimal digits a word, and answers it.
 pub fn package_line(text: &mut [u8; LONGEST], request: Request) -> &[u8] {
     let header = match request.depth {
-        GenericFraction::NaN => bare(NAN),
-        GenericFraction::Infinity(Sign::Plus) => bare(PLUS_INFINITY),
-        GenericFraction::Infinity(Sign::Minus) => bare(MINUS_INFINITY),
+        GenericFraction::NaN => bare(SignWord::NaN),
+        GenericFraction::Infinity(sign) => bare(SignWord::of_infinity(sign)),
         GenericFraction::Rational(sign, ratio) => {
             put_groups(text, sign, ratio.numer(), ratio.denom(), request.precision)
         }
@@ -48,7 +37,7 @@ pub fn package_line(text: &mut [u8; LONGEST], request: Request) -> &[u8] {
 }
 
 // The header of a package of no group.
-fn bare(sign: u16) -> Header
+fn bare(sign: SignWord) -> Header
     ensures { result.groups ≤ 4_101 }
 {
     Header {
@@ -62,7 +51,7 @@ fn bare(sign: u16) -> Header
 fn put_header(text: &mut [u8; LONGEST], header: Header) {
     put_word(text, 0, header.groups);
     put_word(text, 1, header.weight.cast_unsigned());
-    put_word(text, 2, header.sign);
+    put_word(text, 2, u16::from(header.sign));
     put_word(text, 3, header.scale);
 }
 
@@ -79,11 +68,11 @@ fn put_groups(text: &mut [u8; LONGEST], sign: Sign, n: u64, d: u64, precision: u
     ensures { result.groups ≤ 4_101 }
 {
     if n == 0 {
-        return bare(PLUS);
+        return bare(SignWord::Plus);
     }
     let whole = n / d;
     let whole_groups = put_whole(text, whole);
-    let limit = precision.clamp(1, GREATEST_PRECISION);
+    let limit = precision.clamp(1, PG_MAX_PRECISION as u16);
     let fraction = put_fraction(text, whole_groups, n % d, d, limit);
     Header {
         groups: if fraction.scale == 0 {
@@ -96,10 +85,7 @@ fn put_groups(text: &mut [u8; LONGEST], sign: Sign, n: u64, d: u64, precision: u
         } else {
             whole_groups as i16 - 1
         },
-        sign: match sign {
-            Sign::Plus => PLUS,
-            Sign::Minus => MINUS,
-        },
+        sign: SignWord::of_number(sign),
         scale: fraction.scale,
     }
 }
