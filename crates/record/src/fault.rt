@@ -65,7 +65,7 @@ impl fmt::Display for RecordFault {
 
     fn fmt<W: fmt::Write>(&self, f: &mut fmt::Formatter<W>) -> fmt::Result {
         match self {
-            RecordFault::Refused(fault) => write!(f, "refused {}", fault.number()),
+            RecordFault::Refused(input) => write!(f, "refused {}", input.number()),
             RecordFault::Bad => f.write_str("bad record"),
             RecordFault::Short => f.write_str("short record"),
         }
