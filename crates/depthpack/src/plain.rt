@@ -1,6 +1,6 @@
 // Packs a depth by a plain loop: five million records take 0.38 s by it, and 0.90 s by the writer of numeric_write.
 // A package is four words (number of groups, weight, sign, scale) and then groups of four decimal digits, each a word.
-ghost use Rattle.std.specs.Prelude.{◌≡◌, ◌+◌, ◌*◌, ◌/◌, ◌%◌, ◌<◌, ◌≤◌};
+ghost use Rattle.std.specs.Prelude.{◌≡◌, ◌+◌, ◌*◌, ◌/◌, ◌%◌, ◌<◌, ◌≤◌, length};
 
 use fraction::generic_fraction::GenericFraction;
 use generic::sign::Sign;
@@ -22,7 +22,9 @@ struct Header {
 }
 
 // Puts the package's line at the start of `text`, four hexadecimal digits a word, and answers it.
-pub fn package_line(text: &mut [u8; LONGEST], request: Request) -> &[u8] {
+pub fn package_line(text: &mut [u8; LONGEST], request: Request) -> &[u8]
+    ensures { length result.now ≤ 16_421 }
+{
     let header = match request.depth {
         GenericFraction::NaN => bare(SignWord::NaN),
         GenericFraction::Infinity(sign) => bare(SignWord::of_infinity(sign)),
