@@ -1,5 +1,5 @@
 -- A word of digits by its low and its high digits.
-use Rattle.std.proofs.Common.{◌≡◌, ℕ, zero, suc, ◌+◌, ◌-◌, ◌*◌, ◌/◌, ◌%◌, ◌^◌, ◌<◌, ◌≤◌, sym, ap, ◌∙◌, subst, inl, inr, add-zero, add-suc, mul_assoc, add-mul, div-add-mod', arith}
+use Rattle.std.proofs.Common.{◌≡◌, ℕ, zero, suc, ◌+◌, ◌-◌, ◌*◌, ◌/◌, ◌%◌, ◌^◌, ◌<◌, ◌≤◌, sym, ap, ◌∙◌, subst, inl, inr, add-zero, add-suc, mul_assoc, add-mul, arith}
 use Rattle.std.proofs.lemmas.Nat.{pow-add, shr-shr, div-mul-add, mul-le}
 use Rattle.std.proofs.lemmas.Bool.{cases_lt}
 use Rattle.packed.specs.Digits.{nibble, decimal, Writes}
@@ -8,15 +8,6 @@ use Rattle.packed.proofs.Decimals.{decimal_same, nibble_low}
 -- a place above place j is a place of what stands above j
 pub nibble_high : (j w i : ℕ) → nibble (w / 2 ^ (4 * j)) i ≡ nibble w (j + i)
 nibble_high j w i = ap (λ x. x % 16) (shr-shr w (4 * j) (4 * i) ∙ ap (λ e. w / 2 ^ e) (omega arith))
-
--- a place below place j is a place of what stands below j
-pub nibble_mod : (j w i : ℕ) → i < j → nibble (w % 2 ^ (4 * j)) i ≡ nibble w i
-nibble_mod j w i h =
-    let whole : w % 2 ^ (4 * j) + w / 2 ^ (4 * j) * 2 ^ (4 * j) ≡ w = omega (arith, div-add-mod' w (2 ^ (4 * j))) in
-    sym (nibble_low j (w % 2 ^ (4 * j)) (w / 2 ^ (4 * j)) i h) ∙ ap (λ x. nibble x i) whole
-
-pub decimal_mod : (j w : ℕ) → decimal j (w % 2 ^ (4 * j)) ≡ decimal j w
-decimal_mod j w = decimal_same j (w % 2 ^ (4 * j)) w (λ i h. nibble_mod j w i h)
 
 -- the high digits count 10 ^ j times as much
 pub decimal_split : (j k w : ℕ) → decimal (j + k) w ≡ decimal j w + decimal k (w / 2 ^ (4 * j)) * 10 ^ j
@@ -28,10 +19,6 @@ decimal_split j (suc k) w =
     let high : nibble (w / 2 ^ (4 * j)) k * 10 ^ k * 10 ^ j ≡ nibble w (j + k) * 10 ^ (j + k) =
     ap (λ d. d * 10 ^ k * 10 ^ j) (nibble_high j w k) ∙ mul_assoc (nibble w (j + k)) (10 ^ k) (10 ^ j) ∙ ap (λ p. nibble w (j + k) * p) (sym (pow-add 10 k j) ∙ ap (λ e. 10 ^ e) (omega arith)) in
     head ∙ omega (arith, low, high, add-mul (decimal k (w / 2 ^ (4 * j))) (nibble (w / 2 ^ (4 * j)) k * 10 ^ k) (10 ^ j))
-
--- the same by halves that are words of their own
-pub decimal_halves : (j k w : ℕ) → decimal k (w / 2 ^ (4 * j)) * 10 ^ j + decimal j (w % 2 ^ (4 * j)) ≡ decimal (j + k) w
-decimal_halves j k w = omega (arith, decimal_split j k w, decimal_mod j w)
 
 -- a word of k digits above a word of j digits
 pub writes_halves : (j k low high m n : ℕ) → Writes j low m → Writes k high n → Writes (j + k) (high * 2 ^ (4 * j) + low) (n * 10 ^ j + m)

@@ -1,3 +1,4 @@
 pub mod Decimals
 pub mod Digits
 pub mod Faults
+pub mod Parts

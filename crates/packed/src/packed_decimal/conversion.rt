@@ -1,41 +1,28 @@
-// A packed decimal's number, and the digits of a number: halves, quarters and pairs of digits instead of one by one.
-// Each size has a function of its own: one function that calls itself on half the digits takes ten times as long.
-ghost use Rattle.std.specs.Prelude.{◌≡◌, ◌<◌, ◌≤◌};
+// A packed decimal's number, and the digits of a number: all pairs of digits at once, then all fours, and so on.
+ghost use Rattle.std.specs.Prelude.{◌≡◌, ℕ, ◌+◌, ◌*◌, ◌^◌, ◌<◌, ◌≤◌};
 ghost use Rattle.packed.specs.Digits.{Writes, decimal};
+ghost use Rattle.packed.specs.Parts.{lower_halves, written};
 
 use super::PackedDecimal;
 
-// The number that two digits write: 16 × tens + units, less 6 × tens.
-#[tactic(auto, unfolding(crate::specs::Digits::decimal))]
-fn two(word: u64) -> u64
-    requires { word < 0x100 }
-    ensures value { result ≡ decimal 2 word }
-    ensures bound { result ≤ 165 }
+// Each two neighbouring parts of `bits` bits become one part that holds the number which both write in the base.
+// The mask picks the lower half of each such part.
+fn join(word: u64, bits: u32, base: u64, mask: u64) -> u64
+    requires half { bits ≤ 32 }
+    requires fits { base ≤ 2 ^ bits }
+    ensures { (n : ℕ) → mask ≡ lower_halves bits n → written (bits + bits) (base * base) n result ≡ written bits base (n + n) word }
 {
-    word - 6 * (word / 0x10)
-}
-
-fn four(word: u64) -> u64
-    requires { word < 0x1_0000 }
-    ensures value { result ≡ decimal 4 word }
-    ensures bound { result ≤ 16_665 }
-{
-    two(word / 0x100) * 100 + two(word % 0x100)
-}
-
-fn eight(word: u64) -> u64
-    requires { word < 0x1_0000_0000 }
-    ensures value { result ≡ decimal 8 word }
-    ensures bound { result ≤ 166_666_665 }
-{
-    four(word / 0x1_0000) * 10_000 + four(word % 0x1_0000)
+    word - ((1 << bits) - base) * ((word >> bits) & mask)
 }
 
 // The number that sixteen digits write.
 pub(super) fn sixteen(word: u64) -> u64
     ensures { result ≡ decimal 16 word }
 {
-    eight(word / 0x1_0000_0000) * 100_000_000 + eight(word % 0x1_0000_0000)
+    let twos = join(word, 4, 10, 0x0f0f_0f0f_0f0f_0f0f);
+    let fours = join(twos, 8, 100, 0x00ff_00ff_00ff_00ff);
+    let eights = join(fours, 16, 10_000, 0x0000_ffff_0000_ffff);
+    join(eights, 32, 100_000_000, 0x0000_0000_ffff_ffff)
 }
 
 #[tactic(auto, using(crate::proofs::Halves::writes_two))]

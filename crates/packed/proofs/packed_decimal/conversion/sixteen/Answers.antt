@@ -1,6 +1,8 @@
-use Rattle.std.proofs.Common.{arith}
-use Rattle.packed.proofs.Halves.{decimal_halves}
+use Rattle.std.proofs.Common.{refl, arith}
+use Rattle.packed.specs.Parts.{written, lower_halves}
+use Rattle.packed.proofs.Parts.{written_digits}
 use Rattle.packed.proofs.packed_decimal.conversion.sixteen.Goals as goal
 
 pub returns : goal.returns
-returns c = omega (arith, decimal_halves 8 8 c.args.word)
+unfolding written lower_halves
+returns c = omega (arith, written_digits 16 c.args.word, c.join-twos.ensures 8 refl, c.join-fours.ensures 4 refl, c.join-eights.ensures 2 refl, c.join.ensures 1 refl)

@@ -1,6 +1,0 @@
-use Rattle.std.proofs.Common.{arith}
-use Rattle.packed.proofs.Halves.{decimal_halves}
-use Rattle.packed.proofs.packed_decimal.conversion.eight.Goals as goal
-
-pub returns-clause-value : goal.returns-clause-value
-returns-clause-value c = omega (arith, decimal_halves 4 4 c.args.word)
