@@ -26,6 +26,7 @@ pub fn serve<T: GenericInteger, S: DigitSink>(
 }
 
 // The same with a division begun without a whole part. Where 7 or 8 refuses its calls, no sink and no number changes.
+#[tactic(auto, using(crate::proofs::Lost::no_digit_lost))]
 pub fn serve_rem<T: GenericInteger, S: DigitSink>(
     remainder: T,
     divisor: T,
@@ -57,8 +58,7 @@ fn next<T: GenericInteger, S: DigitSink>(division: Division<T>, sink: &mut S) ->
 
 // One call for each sink, in order, on the state that the one before handed back.
 fn serve_on<T: GenericInteger, S: DigitSink>(start: Division<T>, sinks: &mut [S]) -> Division<T>
-    ensures law { NoDigitLost }
-    ensures run { Served T.CountingNumber S.DigitSink start sinks.old sinks.new result }
+    ensures { Served T.CountingNumber S.DigitSink start sinks.old sinks.new result }
 {
     let mut division = start;
     for sink in sinks {

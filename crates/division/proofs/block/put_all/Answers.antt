@@ -4,11 +4,11 @@ use Rattle.division.proofs.Puts.{remain_all, above_small, above_below, group_sma
 use Rattle.division.proofs.Runs.{length_digits}
 use Rattle.division.proofs.block.put_all.Goals as goal
 
-pub split-first-requires : goal.split-first-requires
-split-first-requires g c = record { groups = omega arith; high = above_below _ c.args.count _ (omega arith) (omega arith) c.requires.number }
+pub split-first-requires-clause-high : goal.split-first-requires-clause-high
+split-first-requires-clause-high g c = above_below _ c.args.count _ (omega arith) (omega arith) c.requires.number
 
-pub put_group-requires : goal.put_group-requires
-put_group-requires g c = record { any = omega arith; few = omega arith; number = rw c.split-first.ensures.0 (above_small _ c.args.count _ (omega arith) c.requires.number); some = omega arith }
+pub put_group-requires-clause-number : goal.put_group-requires-clause-number
+put_group-requires-clause-number g c = rw c.split-first.ensures.0 (above_small _ c.args.count _ (omega arith) c.requires.number)
 
 pub loop-groups-init : goal.loop-groups-init
 loop-groups-init g c =
@@ -23,11 +23,11 @@ loop-groups-init g c =
       g.met.S.DigitSink.order.stays _,
     )
 
-pub split-four-requires : goal.split-four-requires
-split-four-requires g c = record { groups = omega arith; high = group_small _ c.loop-groups.groups (omega arith) c.loop-groups.invariant.1 }
+pub split-four-requires-clause-high : goal.split-four-requires-clause-high
+split-four-requires-clause-high g c = group_small _ c.loop-groups.groups (omega arith) c.loop-groups.invariant.1
 
-pub put_group-requires-in-loop-groups : goal.put_group-requires-in-loop-groups
-put_group-requires-in-loop-groups g c = record { any = omega arith; few = omega arith; number = rw c.split-four.ensures.0 (group_small _ c.loop-groups.groups (omega arith) c.loop-groups.invariant.1); some = omega (arith, c.loop-groups.invariant.2) }
+pub put_group-requires-in-loop-groups-clause-number : goal.put_group-requires-in-loop-groups-clause-number
+put_group-requires-in-loop-groups-clause-number g c = rw c.split-four.ensures.0 (group_small _ c.loop-groups.groups (omega arith) c.loop-groups.invariant.1)
 
 pub loop-groups-preserved : goal.loop-groups-preserved
 loop-groups-preserved g c =
@@ -41,14 +41,9 @@ loop-groups-preserved g c =
       g.met.S.DigitSink.order.joins _ _ _ inv.4 c.put_group-in-loop-groups.ensures.on,
     )
 
-pub returns : goal.returns
-returns g c =
-    let s = g.S.DigitSink in
-    let inv = c.loop-groups.invariant in
+pub returns-clause-takes : goal.returns-clause-takes
+returns-clause-takes g c =
     let parts = c.split-first.ensures in
-    record {
-      takes = takes_parts s.step c.args.number c.args.count ((c.args.count - 1) / 4) c.split-first.result.0 c.split-first.result.1 _ _ _ (omega arith) c.requires.number parts.0 parts.1
-          c.put_group.ensures.takes
-          (groups_done s.step _ _ c.loop-groups.rest c.loop-groups.groups _ c.loop-groups-test.false inv.3);
-      on = g.met.S.DigitSink.order.joins _ _ _ c.put_group.ensures.on inv.4;
-    }
+    takes_parts g.S.DigitSink.step c.args.number c.args.count ((c.args.count - 1) / 4) c.split-first.result.0 c.split-first.result.1 _ _ _ (omega arith) c.requires.number parts.0 parts.1
+    c.put_group.ensures.takes
+    (groups_done g.S.DigitSink.step _ _ c.loop-groups.rest c.loop-groups.groups _ c.loop-groups-test.false c.loop-groups.invariant.3)

@@ -1,6 +1,5 @@
 use Rattle.std.proofs.Common.{◌≡◌, ℕ, ◌+◌, ◌<◌, ◌≢◌, [], ◌∷◌, ◌++◌, length, get_or, take, set, sym, refl, ap, ◌∙◌, arith, get_or-set_other}
-use Rattle.std.proofs.lemmas.List.{take_all, take_more, take_more_set}
-use Rattle.division.proofs.Lost.{no_digit_lost}
+use Rattle.std.proofs.lemmas.List.{take_more, take_more_set}
 use Rattle.division.proofs.Serving.{served_none, served_more}
 use Rattle.division.proofs.serve.serve_on.Goals as goal
 
@@ -22,9 +21,3 @@ loop-sink-preserved g c =
       rw (olds, news) (served_more _ _ _ _ _ _ _ _ _ c.loop-sink.invariant.0 c.next-division.ensures),
       λ k d h. let other : k ≢ i = omega arith in rw get_or-set_other (c.loop-sink.invariant.1 k d (omega arith)),
     )
-
-pub returns : goal.returns
-returns g c =
-    let olds : take c.loop-sink.sink-index c.args.sinks.now ≡ c.args.sinks.now = take_all c.loop-sink.sink-index c.args.sinks.now (omega arith) in
-    let news : take c.loop-sink.sink-index c.loop-sink.sink-items ≡ c.loop-sink.sink-items = take_all c.loop-sink.sink-index c.loop-sink.sink-items (omega arith) in
-    record { law = no_digit_lost; run = rw (olds, news) at c.loop-sink.invariant.0 }

@@ -1,39 +1,28 @@
 use Rattle.std.proofs.Common.{◌%◌, ◌<◌, refl, ◌∙◌, mod-lt, arith}
 use Rattle.division.proofs.Blocks.{went_whole}
-use Rattle.division.proofs.Places.{few_places, quotient_below}
+use Rattle.division.proofs.Places.{few_places}
 use Rattle.division.proofs.whole.at_once.Goals as goal
 
-pub put_all-requires : goal.put_all-requires
-put_all-requires g c =
-    let number = g.T.CountingNumber.number in
+pub put_all-requires-clause-few : goal.put_all-requires-clause-few
+put_all-requires-clause-few g c =
     let state = c.args.state in
     let sound = state.sound in
-    let divided = rw c.unwrap.ensures at c.div_rem.ensures in
-    record {
-      any = sound.place;
-      few = few_places state.place (number state.unit) (number state.divisor) sound.unit sound.divisor (omega (arith, sound.fits, g.met.T.CountingNumber.widest));
-      number = rw (c.to_u64.ensures ∙ divided.1) (quotient_below _ _ _ _ _ sound);
-      some = c.requires;
-    }
+    few_places state.place (g.T.CountingNumber.number state.unit) _ sound.unit sound.divisor (omega (arith, sound.fits, g.met.T.CountingNumber.widest))
 
-pub returns : goal.returns
-returns g c =
+pub returns-clause-went : goal.returns-clause-went
+returns-clause-went g c =
     let number = g.T.CountingNumber.number in
     let state = c.args.state in
     let m = number state.rest in
     let d = number state.divisor in
     let sound = state.sound in
     let divided = rw c.unwrap.ensures at c.div_rem.ensures in
-    let near : m % d < d = mod-lt m sound.divisor in
-    record {
-      went = (
-        c.requires,
-        refl,
-        omega (arith, divided.2),
-        (
-          sound.place,
-          went_whole d sound.divisor g.S.DigitSink.step m state.place c.to_u64.result _ _ _ sound.rest c.requires (c.to_u64.ensures ∙ divided.1) divided.2 c.put_all.ensures.takes,
-        ),
-      );
-      on = c.put_all.ensures.on;
-    }
+    let near : m % d < d = mod-lt m sound.divisor in (
+      c.requires,
+      refl,
+      omega (arith, divided.2),
+      (
+        sound.place,
+        went_whole d sound.divisor g.S.DigitSink.step m state.place c.to_u64.result _ _ _ sound.rest c.requires (c.to_u64.ensures ∙ divided.1) divided.2 c.put_all.ensures.takes,
+      ),
+    )

@@ -1,23 +1,9 @@
-use Rattle.std.proofs.Common.{◌≡◌, ◌+◌, ◌-◌, ◌*◌, ◌<◌, sym, refl, ◌∙◌, one-mul, arith}
-use Rattle.division.proofs.Places.{begun_width, unit_up, few_places}
+use Rattle.std.proofs.Common.{◌≡◌, ◌+◌, ◌-◌, ◌*◌, ◌<◌, ◌∙◌, arith}
+use Rattle.division.proofs.Places.{begun_width, unit_up}
 use Rattle.division.proofs.Tests.{less, not_less, past}
 use Rattle.division.proofs.whole.begun.Given as given
 use Rattle.division.proofs.whole.begun.Goals as goal
 use Rattle.division.proofs.whole.begun.Goals.{Joined-checked_mul, in-Some+then-is_lt, in_default}
-
-pub widen-init : goal.widen-init
-widen-init g c = (omega arith, sym (one-mul _), λ h. absurd (omega arith), c.requires)
-
-pub overflow_add-place : goal.overflow_add-place
-overflow_add-place g c =
-    let number = g.T.CountingNumber.number in
-    let few = few_places c.widen.place (number c.widen.unit) (number c.args.d) c.widen.invariant.1 c.requires (omega (arith, g.met.T.CountingNumber.within c.widen.unit, g.met.T.CountingNumber.widest)) in
-    omega arith
-
-pub widen-smaller : goal.widen-smaller
-widen-smaller g c =
-    let next = rw c.ten-ten.ensures at c.in-Some.ensures.1 in
-    omega (arith, c.widen.invariant.3, g.met.T.CountingNumber.within c.in-Some.next)
 
 pub widen-preserved : goal.widen-preserved
 widen-preserved g c =
@@ -49,8 +35,3 @@ invariant_of-result g c =
     let inv = c.widen.invariant in
     let width = begun_width _ _ _ _ inv.0 inv.1 (below g c) inv.2 in
     record { sound = record { divisor = c.requires; place = inv.0; unit = inv.1; fits = g.met.T.CountingNumber.within c.widen.unit; rest = width.enough } }
-
-pub returns : goal.returns
-returns g c =
-    let inv = c.widen.invariant in
-    record { rest = refl; divisor = refl; width = begun_width _ _ _ _ inv.0 inv.1 (below g (goal.at.returns g c).Joined-checked_mul) inv.2 }

@@ -1,13 +1,10 @@
 use Rattle.std.proofs.Common.{◌+◌, arith, length-set}
-use Rattle.division.proofs.Fed.{ascii_more, text_more}
+use Rattle.division.proofs.Fed.{ascii_more}
 use Rattle.division.proofs.text.TextSink.put.Goals as goal
 
-pub returns : goal.returns
-returns c =
+pub returns-clause-takes : goal.returns-clause-takes
+returns-clause-takes c =
     let b = c.args.self.now.buffer.now in
     let t = c.args.self.now.taken in
     let len = length-set b t (48 + c.args.digit) in
-    record {
-      on = text_more _ b t c.args.digit (omega arith) (omega arith) (omega arith);
-      takes = record { taken = omega arith; left = omega arith; held = ascii_more b t c.args.digit (omega arith) };
-    }
+    record { taken = omega arith; left = omega arith; held = ascii_more b t c.args.digit (omega arith) }
