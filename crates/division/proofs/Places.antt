@@ -40,10 +40,6 @@ digit_small m d u p most s =
     let below : m < 10 * u = omega (arith, s.unit, s.rest) in
     (div-lt_iff_lt-mul {k = u} {x = m} {y = 10} (omega arith)).1 below
 
--- the quotient is below the power of ten
-pub quotient_below : (m d u p most : ℕ) → Sound m d u p most → m / d < 10 ^ p
-quotient_below m d u p most s = (div-lt_iff_lt-mul {k = d} {x = m} {y = 10 ^ p} s.divisor).1 s.rest
-
 -- the unit of the place below
 pub sound_down : (m d u p most m' u' : ℕ) → Sound m d u p most → ¬ (p ≡ 1) → m' < u → u' ≡ u / 10 → Sound m' d u' (p - 1) most
 sound_down m d u p most m' u' s more below eu' =

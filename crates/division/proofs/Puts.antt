@@ -1,5 +1,5 @@
 -- Digits that go into a sink one after another, and the groups of a number's digits.
-use Rattle.std.proofs.Common.{◌≡◌, ℕ, zero, suc, ◌+◌, ◌-◌, ◌*◌, ◌/◌, ◌%◌, ◌^◌, ◌<◌, ◌≤◌, List, [], ◌∷◌, ◌++◌, length, sym, refl, ap, ◌∙◌, mod-lt, mod-eq_of_lt, div-lt_iff_lt-mul, suc-add, zero-add, mul-one, div-one, arith, lit<, length-append, pow-add}
+use Rattle.std.proofs.Common.{◌≡◌, ℕ, zero, suc, ◌+◌, ◌-◌, ◌*◌, ◌/◌, ◌%◌, ◌^◌, ◌<◌, ◌≤◌, List, [], ◌∷◌, ◌++◌, length, sym, refl, ap, ◌∙◌, mod-lt, mod-eq_of_lt, div-lt_iff_lt-mul, suc-add, zero-add, mul-one, arith, lit<, length-append, pow-add}
 use native.Mathlib.Nat.{pow-le-pow_right}
 use Rattle.division.specs.Digits.{fed}
 use Rattle.division.specs.Expansion.{digits}
@@ -106,20 +106,3 @@ takes_parts step n k g q r a b c some below eq er first second =
     let parts : digits 1 n k k ≡ digits 1 q high high ++ digits 1 r low low =
     ap (λ k. digits 1 n k k) e ∙ digits_parts n high low small ∙ ap (λ z. digits 1 z high high ++ digits 1 (n % 10 ^ low) low low) (sym eq) ∙ ap (λ z. digits 1 q high high ++ digits 1 z low low) (sym er) in
     rw parts (takes_join step a (digits 1 q high high) b (digits 1 r low low) c first second)
-
--- The digits of a number of four, each from what those above it leave.
-pub four_left : (n : ℕ) → digits 1 n 4 4 ≡ n / 1000 ∷ n % 1000 / 100 ∷ n % 1000 % 100 / 10 ∷ n % 1000 % 100 % 10 ∷ []
-four_left n = ap (λ z. n / 1000 ∷ n % 1000 / 100 ∷ n % 1000 % 100 / 10 ∷ z ∷ []) (div-one (n % 1000 % 100 % 10))
-
--- The digits of a number of two and of three, each from the number itself.
-pub two_digits : (n : ℕ) → digits 1 n 2 2 ≡ n / 10 ∷ n % 10 ∷ []
-two_digits n = ap (λ z. n / 10 ∷ z ∷ []) (div-one (n % 10))
-
-tens : (n : ℕ) → n % 100 / 10 ≡ n / 10 % 10
-tens n = quotient_left 10 (omega arith) n 1
-
-units : (n : ℕ) → n % 100 % 10 / 1 ≡ n % 10
-units n = div-one (n % 100 % 10) ∙ remainder_left 10 (omega arith) n 1
-
-pub three_digits : (n : ℕ) → digits 1 n 3 3 ≡ n / 100 ∷ n / 10 % 10 ∷ n % 10 ∷ []
-three_digits n = ap (λ z. n / 100 ∷ z ∷ n % 100 % 10 / 1 ∷ []) (tens n) ∙ ap (λ z. n / 100 ∷ n / 10 % 10 ∷ z ∷ []) (units n)
