@@ -23,9 +23,6 @@ some_before d zero k pos = absurd (omega (arith, none_after d k))
 some_before d (suc r) k pos = omega arith
 
 module _ (step : ℕ → ℕ → ℕ) (d m₀ p₀ k₀ : ℕ) (a₀ : Tally) where
-  pub due_first : Due step d m₀ p₀ k₀ a₀ m₀ p₀ k₀ a₀
-  due_first = record { taken = refl; left = refl; held = refl; state = refl; place = refl }
-
   -- a digit of the whole part
   pub due_whole : (m p : ℕ) (a : Tally) (q m' p' : ℕ) (b : Tally) → 0 < p → q ≡ m / (10 ^ (p - 1) * d) → m' ≡ m % (10 ^ (p - 1) * d) → p' ≡ p - 1
       → Took step a (q ∷ []) b → Due step d m₀ p₀ k₀ a₀ m p (min a.left p) a → Due step d m₀ p₀ k₀ a₀ m' p' (min b.left p') b
@@ -98,22 +95,7 @@ module _ (step : ℕ → ℕ → ℕ) (d m₀ p₀ k₀ : ℕ) (a₀ : Tally) wh
         place = omega (arith, g.place);
       }
 
-  -- what was still to do is done
-  pub due_done : (m p k : ℕ) (a b : Tally) (m' p' : ℕ) → Due step d m₀ p₀ k₀ a₀ m p k a → Went step d m p k a b m' p' → Went step d m₀ p₀ k₀ a₀ b m' p'
-  due_done m p k a b m' p' g w =
-      record {
-        taken = omega (arith, g.taken, w.taken);
-        left = omega (arith, g.left, w.left);
-        held = w.held ∙ g.held;
-        state = w.state ∙ g.state;
-        place = w.place ∙ g.place;
-      }
-
--- No digit of the fraction comes where none is left to take, or no remainder is left.
-pub coming_full : (d r l : ℕ) → l ≡ 0 → coming d r l ≡ 0
-coming_full d r zero e = refl
-coming_full d r (suc l) e = absurd (omega arith)
-
+-- No digit of the fraction comes where no remainder is left.
 pub coming_over : (d r l : ℕ) → r ≡ 0 → coming d r l ≡ 0
 coming_over d r zero e = refl
 coming_over d zero (suc l) e = refl
