@@ -2,7 +2,6 @@
 ghost use Rattle.std.specs.Prelude.{◌≡◌, ◌*◌, ◌/◌, ◌%◌, ◌<◌};
 
 use generic::integer::GenericInteger;
-use std::cmp::Ordering;
 
 // The next digit of the fraction r over d, and the remainder after it.
 pub(crate) fn digit_step<T: GenericInteger>(r: T, d: T) -> (u8, T)
@@ -43,7 +42,7 @@ fn corrected_step<T: GenericInteger>(r: T, d: T) -> (u8, T)
         let owed = digit * unit;
         let tens = (owed + 9) / 10;
         let whole = T::from_u16(u16::from(tens));
-        if let Ordering::Less = rest.compare(whole) {
+        if rest.compare(whole).is_lt() {
             digit -= 1;
             rest = rest.checked_add(tenth).unwrap();
         } else {

@@ -63,7 +63,7 @@ fn advance<T: GenericInteger, S: DigitSink>(first: T, divisor: T, sink: &mut S) 
     ones(remainder, divisor, sink)
 }
 
-// Continues on with the fraction, and hands back the state after the digits taken. Refused with 7 where the divisor is 0, and else
+// Goes on with the fraction, and hands back the state after the digits taken. Refused with 7 where the divisor is 0, and else
 // with 8 where the remainder is not below it: nothing is then offered, and the very state is handed back.
 pub fn divide_rem_resume<T: GenericInteger, S: DigitSink>(
     state: DivisionState<T>,

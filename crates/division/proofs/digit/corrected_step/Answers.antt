@@ -25,7 +25,7 @@ returns g c =
     let t = began g (goal.at.returns g c).At-trial in
     let less = rw c.unwrap.ensures at c.checked_sub.ensures in
     let tenfold = rw (c.unwrap-tenfold.ensures, c.ten-ten.ensures) at c.checked_mul.ensures in
-    let rem = rw c.unwrap-in_default.ensures at c.checked_add-in_default.ensures in
-    let e : number c.unwrap-in_default.result + q * b ≡ 10 * number c.trial.rest = omega (arith, less, tenfold.1, rem.1, c.from.ensures, c.from_u16-whole.ensures, c.from-in_default.ensures, c.from_u16-over.ensures) in
-    let done = trial_done 10 _ _ _ _ _ _ t (number c.unwrap-in_default.result) e c.requires.0 in
+    let rem = rw c.unwrap-else-is_lt.ensures at c.checked_add-else-is_lt.ensures in
+    let e : number c.unwrap-else-is_lt.result + q * b ≡ 10 * number c.trial.rest = omega (arith, less, tenfold.1, rem.1, c.from.ensures, c.from_u16-whole.ensures, c.from-else-is_lt.ensures, c.from_u16-over.ensures) in
+    let done = trial_done 10 _ _ _ _ _ _ t (number c.unwrap-else-is_lt.result) e c.requires.0 in
     record { exact = (done.0, done.1); small = (done.2, done.3) }
