@@ -1,9 +1,8 @@
 -- Neighbouring parts of a word become one part, in all pairs at once.
 use Rattle.std.proofs.Common.{◌≡◌, ℕ, zero, suc, ◌+◌, ◌-◌, ◌*◌, ◌/◌, ◌%◌, ◌^◌, ◌<◌, ◌≤◌, refl, sym, ap, ◌∙◌, mul-le-mul, mul-le-mul_left, mul-le-mul_right, mul_comm, mul_assoc, mul-add, add-mul, div-mul-le_self, arith}
 use lib.Bits.{bit_and, and_block, and_mask}
-use Rattle.std.proofs.Math.Nat.{div-div-eq-div-mul, div-add-mod'}
 use Rattle.std.proofs.Math.Pow.{mod-mod-pow}
-use Rattle.std.proofs.lemmas.Nat.{pow_pos, pow-add, mod-pow-add, mod_below, div-mul-add, mod-mul-add, and_le_l}
+use Rattle.std.proofs.lemmas.Nat.{shr-shr, shr_split, pow_pos, pow-add, mod-pow-add, mod_below, div-mul-add, mod-mul-add, and_le_l}
 use Rattle.packed.specs.Digits.{decimal}
 use Rattle.packed.specs.Parts.{written, lower_halves}
 use Rattle.packed.proofs.Decimals.{decimal_none}
@@ -39,29 +38,32 @@ module _ (b base : ℕ) (fits : base ≤ 2 ^ b) where
 
   -- two parts and what stands above them
   cut : (w : ℕ) → w ≡ w / 2 ^ (b + b) * 2 ^ (b + b) + (w / 2 ^ b % 2 ^ b * 2 ^ b + w % 2 ^ b)
-  cut w = omega (arith, div-add-mod' w (2 ^ (b + b)), mod-pow-add w b b)
+  cut w = omega (arith, shr_split w (b + b), mod-pow-add w b b)
 
   square : 2 ^ (b + b) ≡ 2 ^ b * 2 ^ b
   square = pow-add 2 b b
 
   turned : (w : ℕ) → w / 2 ^ b / 2 ^ (b + b) ≡ w / 2 ^ (b + b) / 2 ^ b
-  turned w = div-div-eq-div-mul w (2 ^ b) (2 ^ (b + b)) ∙ ap (λ d. w / d) (mul_comm (2 ^ b) (2 ^ (b + b))) ∙ sym (div-div-eq-div-mul w (2 ^ (b + b)) (2 ^ b))
+  turned w = shr-shr w b (b + b) ∙ ap (λ e. w / 2 ^ e) (omega arith) ∙ sym (shr-shr w (b + b) b)
 
+  -- the upper parts of the lowest pair and of those above it
   upper_more : (n w : ℕ) → upper (suc n) w ≡ upper n (w / 2 ^ (b + b)) * 2 ^ (b + b) + w / 2 ^ b % 2 ^ b
   unfolding lower_halves
   upper_more n w =
       let x : ℕ = w / 2 ^ b in
-      let parts : x ≡ x / 2 ^ (b + b) * 2 ^ (b + b) + x % 2 ^ (b + b) = omega (arith, div-add-mod' x (2 ^ (b + b))) in
+      let parts : x ≡ x / 2 ^ (b + b) * 2 ^ (b + b) + x % 2 ^ (b + b) = sym (shr_split x (b + b)) in
       let low : bit_and (x % 2 ^ (b + b)) (2 ^ b - 1) ≡ x % 2 ^ b = and_mask (x % 2 ^ (b + b)) b ∙ mod-mod-pow x b b in
       let short : 2 ^ b - 1 < 2 ^ (b + b) = omega (arith, pow_pos b, square, mul-le-mul_right (2 ^ b) (pow_pos b)) in
       ap (λ y. bit_and y (lower_halves b (suc n))) parts ∙ and_block (b + b) (x / 2 ^ (b + b)) (lower_halves b n) (x % 2 ^ (b + b)) (2 ^ b - 1) (mod_below x (2 ^ (b + b)) (pow_pos (b + b))) short ∙ rw (turned w, low) refl
 
+  -- the lowest pair, and those above it
   joined_more : (n w : ℕ) → joined (suc n) w ≡ joined n (w / 2 ^ (b + b)) * 2 ^ (b + b) + (w / 2 ^ b % 2 ^ b * base + w % 2 ^ b)
   joined_more n w =
       let q : ℕ = w / 2 ^ (b + b) in
       let pair = take_pair (2 ^ b) (2 ^ (b + b)) (2 ^ b - base) base q (upper n q) (w / 2 ^ b % 2 ^ b) (w % 2 ^ b) (omega arith) (room (lower_halves b n) q) in
       ap (λ x. x - (2 ^ b - base) * upper (suc n) w) (cut w) ∙ ap (λ x. q * 2 ^ (b + b) + (w / 2 ^ b % 2 ^ b * 2 ^ b + w % 2 ^ b) - (2 ^ b - base) * x) (upper_more n w) ∙ pair
 
+  -- the number of two parts has a place in their bits
   pair_fits : (w : ℕ) → w / 2 ^ b % 2 ^ b * base + w % 2 ^ b < 2 ^ (b + b)
   pair_fits w =
       let h : ℕ = w / 2 ^ b % 2 ^ b in
@@ -77,9 +79,8 @@ module _ (b base : ℕ) (fits : base ≤ 2 ^ b) where
       let pair : ℕ = w / 2 ^ b % 2 ^ b * base + w % 2 ^ b in
       let high : joined (suc n) w / 2 ^ (b + b) ≡ joined n q = ap (λ x. x / 2 ^ (b + b)) (joined_more n w) ∙ div-mul-add (joined n q) (2 ^ (b + b)) pair (pair_fits w) in
       let low : joined (suc n) w % 2 ^ (b + b) ≡ pair = ap (λ x. x % 2 ^ (b + b)) (joined_more n w) ∙ mod-mul-add (joined n q) (2 ^ (b + b)) pair (pair_fits w) in
-      let rest : w / 2 ^ b / 2 ^ b ≡ q = div-div-eq-div-mul w (2 ^ b) (2 ^ b) ∙ ap (λ d. w / d) (sym square) in
       let W : ℕ = written b base (n + n) q in
       let above : written (b + b) (base * base) n (joined (suc n) w / 2 ^ (b + b)) ≡ W = ap (written (b + b) (base * base) n) high ∙ joined_written n q in
       let twice : written b base (suc n + suc n) w ≡ w % 2 ^ b + base * (w / 2 ^ b % 2 ^ b + base * written b base (n + n) (w / 2 ^ b / 2 ^ b)) = ap (λ k. written b base k w) {y = suc (suc (n + n))} (omega arith) in
-      let deep : base * (w / 2 ^ b % 2 ^ b + base * written b base (n + n) (w / 2 ^ b / 2 ^ b)) ≡ w / 2 ^ b % 2 ^ b * base + base * base * W = ap (λ x. base * (w / 2 ^ b % 2 ^ b + base * written b base (n + n) x)) rest ∙ mul-add base (w / 2 ^ b % 2 ^ b) (base * W) ∙ omega (arith, mul_assoc base base W, mul_comm base (w / 2 ^ b % 2 ^ b)) in
+      let deep : base * (w / 2 ^ b % 2 ^ b + base * written b base (n + n) (w / 2 ^ b / 2 ^ b)) ≡ w / 2 ^ b % 2 ^ b * base + base * base * W = ap (λ x. base * (w / 2 ^ b % 2 ^ b + base * written b base (n + n) x)) (shr-shr w b b) ∙ mul-add base (w / 2 ^ b % 2 ^ b) (base * W) ∙ omega (arith, mul_assoc base base W, mul_comm base (w / 2 ^ b % 2 ^ b)) in
       rw (low, above) (omega (arith, twice, deep))

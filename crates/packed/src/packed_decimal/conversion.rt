@@ -1,30 +1,33 @@
-// A packed decimal's number, and the digits of a number: all pairs of digits at once, then all fours, and so on.
-ghost use Rattle.std.specs.Prelude.{◌≡◌, ℕ, ◌+◌, ◌*◌, ◌^◌, ◌<◌, ◌≤◌};
+// A packed decimal's number, by all pairs of its digits at once, and the digits of a number, by halves.
+ghost use Rattle.std.specs.Prelude.{◌≡◌, ◌+◌, ◌*◌, ◌/◌, ◌^◌, ◌<◌, ◌≤◌};
 ghost use Rattle.packed.specs.Digits.{Writes, decimal};
 ghost use Rattle.packed.specs.Parts.{lower_halves, written};
 
 use super::PackedDecimal;
 
-// Each two neighbouring parts of `bits` bits become one part that holds the number which both write in the base.
+// In a word of parts of `bits` bits, each two neighbouring parts become one that holds the number which both write.
 // The mask picks the lower half of each such part.
 fn join(word: u64, bits: u32, base: u64, mask: u64) -> u64
-    requires half { bits ≤ 32 }
+    requires shifts { bits < 64 }
     requires fits { base ≤ 2 ^ bits }
-    ensures { (n : ℕ) → mask ≡ lower_halves bits n → written (bits + bits) (base * base) n result ≡ written bits base (n + n) word }
+    requires lower { mask ≡ lower_halves bits (32 / bits) }
+    ensures { let pairs = 32 / bits in written (bits + bits) (base * base) pairs result ≡ written bits base (pairs + pairs) word }
 {
     word - ((1 << bits) - base) * ((word >> bits) & mask)
 }
 
-// The number that sixteen digits write.
+// The number that sixteen digits write: digits in pairs, pairs in fours, fours in eights.
+#[tactic(auto, using(crate::proofs::Parts::written_digits), unfolding(crate::specs::Parts::written, crate::specs::Parts::lower_halves))]
 pub(super) fn sixteen(word: u64) -> u64
     ensures { result ≡ decimal 16 word }
 {
-    let twos = join(word, 4, 10, 0x0f0f_0f0f_0f0f_0f0f);
-    let fours = join(twos, 8, 100, 0x00ff_00ff_00ff_00ff);
+    let pairs = join(word, 4, 10, 0x0f0f_0f0f_0f0f_0f0f);
+    let fours = join(pairs, 8, 100, 0x00ff_00ff_00ff_00ff);
     let eights = join(fours, 16, 10_000, 0x0000_ffff_0000_ffff);
     join(eights, 32, 100_000_000, 0x0000_0000_ffff_ffff)
 }
 
+// A division splits one part, not all at once, and one function that calls itself on both halves takes five times as long.
 #[tactic(auto, using(crate::proofs::Halves::writes_two))]
 fn pack_two(n: u64) -> u64
     requires { n < 100 }
