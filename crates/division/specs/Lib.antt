@@ -1,4 +1,4 @@
-pub mod Block
+pub mod Proper
 pub mod Digits
 pub mod Expansion
 pub mod Faults

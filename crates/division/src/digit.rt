@@ -1,54 +1,62 @@
-// The next digits of a fraction.
-ghost use Rattle.std.specs.Prelude.{◌≡◌, ◌*◌, ◌/◌, ◌%◌, ◌<◌};
+// The next digits of a fraction below 1.
+ghost use Rattle.std.specs.Prelude.{◌*◌, ◌<◌};
+ghost use Rattle.division.specs.Proper.{Next};
 
+use crate::proper::Proper;
 use generic::integer::GenericInteger;
 
-// The next digit of the fraction r over d, and the remainder after it.
-pub(crate) fn digit_step<T: GenericInteger>(r: T, d: T) -> (u8, T)
-    requires { T.number r < T.number d }
-    ensures exact { (result.0 ≡ 10 * T.number r / T.number d) × (T.number result.1 ≡ 10 * T.number r % T.number d) }
-    ensures small { (result.0 < 10) × (T.number result.1 < T.number d) }
-{
-    match T::ten().checked_mul(r) {
-        Some(tenfold) => {
-            let (digit, remainder) = tenfold.div_rem(d).unwrap();
-            (digit.to_u8().unwrap(), remainder)
+impl<T: GenericInteger> Proper<T> {
+    // The next digit, and the fraction after it.
+    pub(crate) fn next_digit(&self) -> (u8, Proper<T>)
+        ensures next { Next 10 self.now result.0 result.1 }
+        ensures small { result.0 < 10 }
+    {
+        let divisor = self.divisor;
+        match T::ten().checked_mul(self.remainder) {
+            Some(tenfold) => {
+                let (digit, remainder) = tenfold.div_rem(divisor).unwrap();
+                (digit.to_u8().unwrap(), Proper { remainder, divisor })
+            }
+            None => self.corrected_digit(),
         }
-        None => corrected_step(r, d),
     }
-}
 
-// The next four digits of the fraction, as one number, and the remainder after them.
-pub(crate) fn four_step<T: GenericInteger>(r: T, d: T) -> (u16, T)
-    requires { T.number r < T.number d }
-    ensures { (result.0 ≡ 10_000 * T.number r / T.number d) × (T.number result.1 ≡ 10_000 * T.number r % T.number d) }
-{
-    r.scaled(10_000, d).unwrap()
-}
+    // The next four digits, as one number, and the fraction after them.
+    pub(crate) fn next_four(&self) -> (u16, Proper<T>)
+        ensures { Next 10_000 self.now result.0 result.1 }
+    {
+        let divisor = self.divisor;
+        let (four, remainder) = self.remainder.scaled(10_000, divisor).unwrap();
+        (four, Proper { remainder, divisor })
+    }
 
-// The next digit where ten times r passes the type's greatest: a trial digit, r over the tenth of d, is lowered until it fits.
-fn corrected_step<T: GenericInteger>(r: T, d: T) -> (u8, T)
-    requires { (T.number r < T.number d) × (T.greatest < 10 * T.number r) }
-    ensures exact { (result.0 ≡ 10 * T.number r / T.number d) × (T.number result.1 ≡ 10 * T.number r % T.number d) }
-    ensures small { (result.0 < 10) × (T.number result.1 < T.number d) }
-{
-    let ten = T::ten();
-    let (tenth, unit) = d.div_rem(ten).unwrap();
-    let unit = unit.to_u8().unwrap();
-    let (trial, mut rest) = r.div_rem(tenth).unwrap();
-    let mut digit = trial.to_u8().unwrap();
-    // digit × d is at most 10 × r exactly where digit × unit is at most 10 × rest.
-    'trial: loop {
-        let owed = digit * unit;
-        let tens = (owed + 9) / 10;
-        let whole = T::from_u16(u16::from(tens));
-        if rest.compare(whole).is_lt() {
-            digit -= 1;
-            rest = rest.checked_add(tenth).unwrap();
-        } else {
-            let over = T::from_u16(u16::from(tens * 10 - owed));
-            let tenfold = rest.checked_sub(whole).unwrap().checked_mul(ten).unwrap();
-            break (digit, tenfold.checked_add(over).unwrap());
+    // The next digit where ten times the remainder passes the type's greatest: a trial digit, the remainder over the tenth of
+    // the divisor, is lowered until it fits.
+    fn corrected_digit(&self) -> (u8, Proper<T>)
+        requires { T.greatest < 10 * T.number self.now.remainder }
+        ensures next { Next 10 self.now result.0 result.1 }
+        ensures small { result.0 < 10 }
+    {
+        let divisor = self.divisor;
+        let ten = T::ten();
+        let (tenth, unit) = divisor.div_rem(ten).unwrap();
+        let unit = unit.to_u8().unwrap();
+        let (trial, mut rest) = self.remainder.div_rem(tenth).unwrap();
+        let mut digit = trial.to_u8().unwrap();
+        // digit × divisor is at most 10 × remainder exactly where digit × unit is at most 10 × rest.
+        'trial: loop {
+            let owed = digit * unit;
+            let tens = (owed + 9) / 10;
+            let whole = T::from_u16(u16::from(tens));
+            if rest.compare(whole).is_lt() {
+                digit -= 1;
+                rest = rest.checked_add(tenth).unwrap();
+            } else {
+                let over = T::from_u16(u16::from(tens * 10 - owed));
+                let tenfold = rest.checked_sub(whole).unwrap().checked_mul(ten).unwrap();
+                let remainder = tenfold.checked_add(over).unwrap();
+                break (digit, Proper { remainder, divisor });
+            }
         }
     }
 }

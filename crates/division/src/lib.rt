@@ -8,6 +8,7 @@ mod digit;
 pub mod fault;
 pub mod fraction;
 mod integral_state;
+mod proper;
 pub mod serve;
 pub mod sink;
 pub mod state;

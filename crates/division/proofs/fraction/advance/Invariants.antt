@@ -1,4 +1,4 @@
-use Rattle.std.proofs.Common.{◌<◌}
+use Rattle.std.proofs.Common.{◌≡◌}
 use Rattle.division.specs.Expansion.{coming}
 use Rattle.division.specs.Sink.{tally}
 use Rattle.division.proofs.Due.{Due}
@@ -8,11 +8,11 @@ abbrev pub invariant-fours : goal.invariant-fours
 invariant-fours g l =
     let s = g.S.DigitSink in
     let number = g.T.CountingNumber.number in
-    let d = number l.divisor in
+    let d = number l.fn.first.divisor in
     let now = l.sink in
     let was = l.initial.sink in
-    (number l.remainder < d)
-    × Due s.step d (number l.initial.remainder) 0 (coming d (number l.initial.remainder) (s.left was)) (tally s was) (number l.remainder) 0 (coming d (number l.remainder) (s.left now)) (tally s now)
+    (l.fraction.divisor ≡ l.fn.first.divisor)
+    × Due s.step d (number l.fn.first.remainder) 0 (coming d (number l.fn.first.remainder) (s.left was)) (tally s was) (number l.fraction.remainder) 0 (coming d (number l.fraction.remainder) (s.left now)) (tally s now)
     × s.on was now
 
 abbrev pub decreases-fours : goal.decreases-fours

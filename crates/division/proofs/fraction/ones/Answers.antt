@@ -1,4 +1,4 @@
-use Rattle.std.proofs.Common.{refl}
+use Rattle.std.proofs.Common.{refl, ◌∙◌}
 use Rattle.division.proofs.Due.{due_fraction, due_none, coming_over}
 use Rattle.division.proofs.Tests.{not_zero}
 use Rattle.division.proofs.fraction.ones.Goals as goal
@@ -6,14 +6,15 @@ use Rattle.division.proofs.fraction.ones.Goals as goal
 pub digits-preserved : goal.digits-preserved
 digits-preserved g c =
     let inv = c.digits.invariant in
-    let exact = c.digit_step-digit.ensures.exact in
+    let next = c.next_digit-digit.ensures.next in
+    let d = g.T.CountingNumber.number c.args.first.divisor in
     let some = not_zero _ c.digits-test.ensures.1 in (
-      c.digit_step-digit.ensures.small.1,
-      due_fraction g.S.DigitSink.step (g.T.CountingNumber.number c.args.divisor) _ _ _ _ _ _ _ _ _ some exact.0 exact.1 c.in-More.ensures.offered.2 inv.1,
+      next.divisor ∙ inv.0,
+      due_fraction g.S.DigitSink.step d _ _ _ _ _ _ _ _ _ some (rw inv.0 at next.digits) (rw inv.0 at next.remainder) c.in-More.ensures.offered.2 inv.1,
       g.met.S.DigitSink.order.joins _ _ _ inv.2 c.in-More.ensures.on,
     )
 
 pub returns-after-digits-clause-went : goal.returns-after-digits-clause-went
 returns-after-digits-clause-went g c =
-    let d = g.T.CountingNumber.number c.args.divisor in
-    due_none g.S.DigitSink.step d _ _ _ _ _ _ _ _ (coming_over d _ _ (c.digits-test.ensures.0 refl)) c.digits.invariant.1
+    let d = g.T.CountingNumber.number c.args.first.divisor in
+    (c.digits.invariant.0, due_none g.S.DigitSink.step d _ _ _ _ _ _ _ _ (coming_over d _ _ (c.digits-test.ensures.0 refl)) c.digits.invariant.1)

@@ -1,6 +1,6 @@
 use Rattle.std.proofs.Common.{◌+◌, ◌*◌}
 use Rattle.division.proofs.Trial.{Trial}
-use Rattle.division.proofs.digit.corrected_step.Given as goal
+use Rattle.division.proofs.proper.Proper.corrected_digit.Given as goal
 
 abbrev pub invariant-trial : goal.invariant-trial
 invariant-trial g l =
