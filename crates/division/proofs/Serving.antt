@@ -1,9 +1,8 @@
 -- One call more on a division that serves sinks.
 use Rattle.std.proofs.Common.{◌≡◌, ℕ, ◌*◌, ◌^◌, ◌<◌, List, [], ◌∷◌, ◌++◌, sym, refl, ap, ◌∙◌, subst, one-mul, arith}
 use Rattle.generic.specs.declared.counting.CountingNumber as counting
-use Rattle.division.specs.Laws.{Leading}
 use Rattle.division.specs.Runs.{Kind, whole, Call, Made, Run, last_rest, last_place}
-use Rattle.division.specs.Serve.{divisor_of, rest_of, place_of, CanGoOn, Seen, Serves, Steps, Served, Opened}
+use Rattle.division.specs.Serve.{divisor_of, rest_of, place_of, CanGoOn, Seen, Serves, Steps, Served}
 use Rattle.division.specs.declared.integral_state.IntegralState.{IntegralState}
 use Rattle.division.specs.declared.sink.DigitSink.{Ghosts}
 use Rattle.division.specs.Sink.{called}
@@ -85,7 +84,3 @@ integrated g sink before state s t (Whole a) same on went =
     steps g sink (Whole state) before s t (Whole a) whole same on went.1 went.2
 integrated g sink before state s t (Fraction a) same on went =
     steps g sink (Whole state) before s t (Fraction a) whole same on went.1 went.3
-
--- What the run says of n and d themselves.
-pub opened_leading : {X S : Type 0} (g : counting.Ghosts X) (sink : Ghosts S) (n d : X) (ss ts : List S) (after : Division X g) (o : Opened g sink n d ss ts after) → Leading (g.number n) (g.number d) o.start.place o.run.calls
-opened_leading g sink n d ss ts after o = rw (ap g.number o.begun.rest, ap g.number o.begun.divisor) at o.run.leading tt

@@ -69,11 +69,16 @@ pub record Served {X S : Type 0} (g : counting.Ghosts X) (sink : Ghosts S) (befo
       place_of before ≡ 0 → g.number (divisor_of before) ≤ g.number (rest_of before)
       → StandsStill (g.number (divisor_of before)) (g.number (rest_of before)) calls
 
--- The sinks are served with n over d from all its whole digits on, and so took its leading digits.
+-- A run of calls from a state in the whole part on serves the sinks, which took its leading digits.
+pub record Leads {X S : Type 0} (g : counting.Ghosts X) (sink : Ghosts S) (start : IntegralState X g) (ss ts : List S) (after : Division X g) : Type 0 where
+  pub run : Served g sink (Whole start) ss ts after
+  pub leading : Leading (g.number start.rest) (g.number start.divisor) start.place run.calls
+
+-- The sinks are served with n over d, from all its whole digits on.
 pub record Opened {X S : Type 0} (g : counting.Ghosts X) (sink : Ghosts S) (n d : X) (ss ts : List S) (after : Division X g) : Type 0 where
   pub start : IntegralState X g
   pub begun : Begun g n d start
-  pub run : Served g sink (Whole start) ss ts after
+  pub leads : Leads g sink start ss ts after
 
 -- What serving the sinks with n over d comes to: refused with 7 exactly when d is 0, and no sink has then changed.
 abbrev pub ServedWhole : {X S : Type 0} (g : counting.Ghosts X) → Ghosts S → X → X → List S → List S → Result (Division X g) DivisionFault → Type 0

@@ -1,12 +1,12 @@
 // Sinks served one after another by one division.
 ghost use Rattle.division.specs.Laws.{NoDigitLost};
-ghost use Rattle.division.specs.Serve.{Steps, Served, ServedWhole};
+ghost use Rattle.division.specs.Serve.{Steps, Served, Leads, ServedWhole};
 ghost use Rattle.division.specs.declared.state.Division.TheVariants.{Fraction};
 
 use crate::fault::DivisionFault;
 use crate::fraction::divide_rem_resume;
 use crate::sink::DigitSink;
-use crate::state::{Division, DivisionState};
+use crate::state::{Division, DivisionState, IntegralState};
 use crate::whole::{divide_integral, open};
 use generic::integer::GenericInteger;
 
@@ -21,8 +21,7 @@ pub fn serve<T: GenericInteger, S: DigitSink>(
     ensures law { NoDigitLost }
     ensures run { ServedWhole T.CountingNumber S.DigitSink n d sinks.old sinks.new result }
 {
-    let state = open(n, d)?;
-    Ok(serve_on(Division::Whole { state }, sinks))
+    Ok(serve_opened(open(n, d)?, sinks))
 }
 
 // The same with a division begun without a whole part. Where 7 or 8 refuses its calls, no sink and no number changes.
@@ -37,6 +36,15 @@ pub fn serve_rem<T: GenericInteger, S: DigitSink>(
 {
     let state = DivisionState::new(remainder, divisor);
     serve_on(Division::Fraction { state }, sinks)
+}
+
+fn serve_opened<T: GenericInteger, S: DigitSink>(
+    state: IntegralState<T>,
+    sinks: &mut [S],
+) -> Division<T>
+    ensures { Leads T.CountingNumber S.DigitSink state sinks.old sinks.new result }
+{
+    serve_on(Division::Whole { state }, sinks)
 }
 
 // One call on a division, wherever it stands.
