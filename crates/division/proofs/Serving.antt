@@ -78,9 +78,9 @@ steps g sink before before' s t after kind same on divisor made =
     })
 
 -- A call on the whole part.
-pub integrated : {X S : Type 0} (g : counting.Ghosts X) (sink : Ghosts S) (before : Division X g) (state : IntegralState X g) (s t : S) (after : Division X g) → before ≡ Whole state → sink.on s t
+pub integrated : {X S : Type 0} (g : counting.Ghosts X) (sink : Ghosts S) (before : Division X g) (state : IntegralState X g) (s t : S) (after : Division X g) → before ≡ Whole state
     → Integrates g sink state s t after → Steps g sink before s t after
-integrated g sink before state s t (Whole a) same on went =
-    steps g sink (Whole state) before s t (Whole a) whole same on went.1 went.2
-integrated g sink before state s t (Fraction a) same on went =
-    steps g sink (Whole state) before s t (Fraction a) whole same on went.1 went.3
+integrated g sink before state s t (Whole a) same went =
+    steps g sink (Whole state) before s t (Whole a) whole same went.3 went.1 went.2
+integrated g sink before state s t (Fraction a) same went =
+    steps g sink (Whole state) before s t (Fraction a) whole same went.4 went.1 went.3

@@ -4,7 +4,6 @@ use Rattle.generic.specs.declared.counting.CountingNumber as counting
 use Rattle.division.specs.Expansion.{coming, Went}
 use Rattle.division.specs.Faults.{Cause}
 use Rattle.division.specs.Sink.{tally}
-use Rattle.division.specs.Tally.{Same}
 use Rattle.division.specs.declared.fault.DivisionFault.{DivisionFault}
 use Rattle.division.specs.declared.proper.Proper.{Proper}
 use Rattle.division.specs.declared.sink.DigitSink.{Ghosts}
@@ -25,10 +24,12 @@ abbrev pub Continues : {X S : Type 0} {g : counting.Ghosts X} → Ghosts S → P
 Continues {g = g} sink p s t a =
     (a.divisor ≡ p.divisor)
     × Went sink.step (g.number p.divisor) (g.number p.remainder) 0 (coming (g.number p.divisor) (g.number p.remainder) (sink.left s)) (tally sink s) (tally sink t) (g.number a.remainder) 0
+    × sink.on s t
 
 -- Offered as a block, the next four digits of p go into the sink and others follow them, or nothing changes.
 abbrev pub Block : {X S : Type 0} {g : counting.Ghosts X} → Ghosts S → Proper X g → S → S → Option (Proper X g) → Type 0
 Block {g = g} sink p s t (Some a) =
     (0 < g.number a.remainder) × (a.divisor ≡ p.divisor)
     × Went sink.step (g.number p.divisor) (g.number p.remainder) 0 4 (tally sink s) (tally sink t) (g.number a.remainder) 0
-Block sink p s t None = Same (tally sink s) (tally sink t)
+    × sink.on s t
+Block sink p s t None = t ≡ s

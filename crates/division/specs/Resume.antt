@@ -13,7 +13,9 @@ use Rattle.division.specs.declared.state.Resumed.{Resumed}
 abbrev pub Resumes : {X S : Type 0} → counting.Ghosts X → Ghosts S → X → X → S → S → Result (Resumed X) (Refused X) → Type 0
 Resumes g sink r d s t (Ok a) =
     (a.state.divisor ≡ d) × Made (g.number d) (g.number r) 0 (called sink fraction s t (g.number a.state.remainder) 0)
+    × sink.on s t
 Resumes g sink r d s t (Err a) =
     (a.state.remainder ≡ r) × (a.state.divisor ≡ d)
     × Made (g.number d) (g.number r) 0 (called sink (refused a.fault) s t (g.number a.state.remainder) 0)
     × (g.number d ≡ 0 → refusal a.fault ≡ refuses 7 []) × (0 < g.number d → refusal a.fault ≡ refuses 8 [])
+    × sink.on s t

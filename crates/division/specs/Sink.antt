@@ -8,8 +8,9 @@ abbrev pub tally : {S : Type 0} → Ghosts S → S → Tally
 tally sink s = tally_by sink.taken sink.left sink.held s
 
 -- The sink s takes the digits xs, one after another, and is then t.
-abbrev pub Takes : {S : Type 0} → Ghosts S → S → List ℕ → S → Type 0
-Takes sink s xs t = Took sink.step (tally sink s) xs (tally sink t)
+pub record Takes {S : Type 0} (sink : Ghosts S) (s : S) (xs : List ℕ) (t : S) : Type 0 where
+  pub took : Took sink.step (tally sink s) xs (tally sink t)
+  pub on : sink.on s t
 
 -- A call on a division, from the sink s to t, that hands back the rest m and the place p.
 abbrev pub called : {S : Type 0} → Ghosts S → Kind → S → S → ℕ → ℕ → Call

@@ -33,9 +33,11 @@ abbrev pub Integrates : {X S : Type 0} (g : counting.Ghosts X) → Ghosts S → 
 Integrates g sink a s t (Whole b) =
     (sink.left s < a.place) × (b.divisor ≡ a.divisor)
     × Made (g.number a.divisor) (g.number a.rest) a.place (called sink whole s t (g.number b.rest) b.place)
+    × sink.on s t
 Integrates g sink a s t (Fraction b) =
     (a.place ≤ sink.left s) × (b.divisor ≡ a.divisor) × (g.number b.remainder < g.number b.divisor)
     × Made (g.number a.divisor) (g.number a.rest) a.place (called sink whole s t (g.number b.remainder) 0)
+    × sink.on s t
 
 -- The state after a digit of the state s that leaves the rest m.
 abbrev pub Follows : {X : Type 0} (g : counting.Ghosts X) → IntegralState X g → X → Division X g → Type 0

@@ -8,8 +8,7 @@ use crate::sink::{Answer, DigitSink};
 pub(crate) fn put<S: DigitSink>(sink: &mut S, digit: u8)
     requires digit { digit < 10 }
     requires some { 0 < S.left sink.old }
-    ensures takes { Takes S.DigitSink sink.old (digit ∷ []) sink.new }
-    ensures on { S.on sink.old sink.new }
+    ensures { Takes S.DigitSink sink.old (digit ∷ []) sink.new }
 {
     // That it is taken is said to the compiler too: with `let _`, a digit of the fraction costs up to two thirds more.
     if let Answer::NotDigit | Answer::Full = sink.offer(digit) {
@@ -21,8 +20,7 @@ pub(crate) fn put<S: DigitSink>(sink: &mut S, digit: u8)
 pub(crate) fn put_four<S: DigitSink>(sink: &mut S, number: u16)
     requires number { number < 10_000 }
     requires some { 4 ≤ S.left sink.old }
-    ensures takes { Takes S.DigitSink sink.old (digits 1 number 4 4) sink.new }
-    ensures on { S.on sink.old sink.new }
+    ensures { Takes S.DigitSink sink.old (digits 1 number 4 4) sink.new }
 {
     let hundreds = number % 1000;
     let tens = hundreds % 100;
@@ -39,8 +37,7 @@ fn put_group<S: DigitSink>(sink: &mut S, number: u16, count: u8)
     requires few { count ≤ 4 }
     requires number { number < 10 ^ count }
     requires some { count ≤ S.left sink.old }
-    ensures takes { Takes S.DigitSink sink.old (digits 1 number count count) sink.new }
-    ensures on { S.on sink.old sink.new }
+    ensures { Takes S.DigitSink sink.old (digits 1 number count count) sink.new }
 {
     match count {
         1 => put(sink, number as u8),
@@ -85,8 +82,7 @@ pub(crate) fn put_all<S: DigitSink>(sink: &mut S, number: u64, count: u8)
     requires few { count ≤ 20 }
     requires number { number < 10 ^ count }
     requires some { count ≤ S.left sink.old }
-    ensures takes { Takes S.DigitSink sink.old (digits 1 number count count) sink.new }
-    ensures on { S.on sink.old sink.new }
+    ensures { Takes S.DigitSink sink.old (digits 1 number count count) sink.new }
 {
     let groups = (count - 1) / 4;
     let (first, mut rest) = split(number, groups);

@@ -15,8 +15,7 @@ fn offer_four<T: GenericInteger, S: DigitSink>(
     sink: &mut S,
 ) -> Option<Proper<T>>
     requires { 4 ≤ S.left sink.old }
-    ensures block { Block S.DigitSink fraction.now sink.old sink.new result }
-    ensures on { S.on sink.old sink.new }
+    ensures { Block S.DigitSink fraction.now sink.old sink.new result }
 {
     let (four, after) = fraction.next_four();
     if after.remainder.is_zero() {
@@ -28,8 +27,7 @@ fn offer_four<T: GenericInteger, S: DigitSink>(
 
 // Offers the next digits one by one until the fraction ends or the sink wants no more, and answers the fraction then.
 fn ones<T: GenericInteger, S: DigitSink>(first: Proper<T>, sink: &mut S) -> Proper<T>
-    ensures went { Continues S.DigitSink first sink.old sink.new result }
-    ensures on { S.on sink.old sink.new }
+    ensures { Continues S.DigitSink first sink.old sink.new result }
 {
     let mut fraction = first;
     'digits: while !fraction.remainder.is_zero() {
@@ -49,8 +47,7 @@ fn ones<T: GenericInteger, S: DigitSink>(first: Proper<T>, sink: &mut S) -> Prop
 
 // The same, with four digits from one division while the sink takes as many and others follow them.
 fn advance<T: GenericInteger, S: DigitSink>(first: Proper<T>, sink: &mut S) -> Proper<T>
-    ensures went { Continues S.DigitSink first sink.old sink.new result }
-    ensures on { S.on sink.old sink.new }
+    ensures { Continues S.DigitSink first sink.old sink.new result }
 {
     let mut fraction = first;
     'fours: while sink.left() >= 4 {
@@ -69,7 +66,6 @@ pub fn divide_rem_resume<T: GenericInteger, S: DigitSink>(
     sink: &mut S,
 ) -> Result<Resumed<T>, Refused<T>>
     ensures resumes { Resumes T.CountingNumber S.DigitSink state.remainder state.divisor sink.old sink.new result }
-    ensures on { S.on sink.old sink.new }
     ensures unchanged { OnErr result (sink.new ≡ sink.old) }
 {
     match Proper::new(state.remainder, state.divisor) {
@@ -90,7 +86,6 @@ pub fn divide_rem<T: GenericInteger, S: DigitSink>(
     sink: &mut S,
 ) -> Result<Resumed<T>, Refused<T>>
     ensures resumes { Resumes T.CountingNumber S.DigitSink remainder divisor sink.old sink.new result }
-    ensures on { S.on sink.old sink.new }
     ensures unchanged { OnErr result (sink.new ≡ sink.old) }
 {
     divide_rem_resume(DivisionState::new(remainder, divisor), sink)

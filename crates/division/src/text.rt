@@ -34,8 +34,7 @@ impl<'a> TextSink<'a> {
     fn put(&mut self, digit: u8)
         requires digit { digit < 10 }
         requires room { 0 < text.left self.old }
-        ensures on { text.on self.old self.new }
-        ensures takes { Takes text self.old (digit ∷ []) self.new }
+        ensures { Takes text self.old (digit ∷ []) self.new }
     {
         self.buffer[self.taken as usize] = b'0' + digit;
         self.taken += 1;

@@ -73,8 +73,7 @@ pub fn divide_integral<T: GenericInteger, S: DigitSink>(
     state: IntegralState<T>,
     sink: &mut S,
 ) -> Division<T>
-    ensures went { Integrates T.CountingNumber S.DigitSink state sink.old sink.new result }
-    ensures on { S.on sink.old sink.new }
+    ensures { Integrates T.CountingNumber S.DigitSink state sink.old sink.new result }
 {
     // One digit or two cost less one by one.
     if state.place > 2 && u16::from(state.place) <= sink.left() {
@@ -87,8 +86,7 @@ pub fn divide_integral<T: GenericInteger, S: DigitSink>(
 // Offers all digits of the whole part that are still to come, from one division, to a sink that takes as many.
 fn at_once<T: GenericInteger, S: DigitSink>(state: IntegralState<T>, sink: &mut S) -> Division<T>
     requires { state.place ≤ S.left sink.old }
-    ensures went { Integrates T.CountingNumber S.DigitSink state sink.old sink.new result }
-    ensures on { S.on sink.old sink.new }
+    ensures { Integrates T.CountingNumber S.DigitSink state sink.old sink.new result }
 {
     let (quotient, remainder) = state.rest.div_rem(state.divisor).unwrap();
     put_all(sink, quotient.to_u64(), state.place);
@@ -102,8 +100,7 @@ fn at_once<T: GenericInteger, S: DigitSink>(state: IntegralState<T>, sink: &mut 
 
 // Offers the next digits of the whole part one by one until it ends or the sink wants no more.
 fn advance<T: GenericInteger, S: DigitSink>(first: IntegralState<T>, sink: &mut S) -> Division<T>
-    ensures went { Integrates T.CountingNumber S.DigitSink first sink.old sink.new result }
-    ensures on { S.on sink.old sink.new }
+    ensures { Integrates T.CountingNumber S.DigitSink first sink.old sink.new result }
 {
     let mut state = first;
     'digits: loop {

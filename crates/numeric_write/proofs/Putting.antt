@@ -133,8 +133,9 @@ accepted t sink m d a b (Err x) lt i = absurd (not_refused x.fault (t.number d) 
 pub integrated : {X S : Type 0} (t : Ghosts X) (sink : DigitSink.Ghosts S) (s : IntegralState X t) (a b : S) (x : Division X t) → Integrates t sink s a b x
     → (sink.taken b ≡ sink.taken a + min (sink.left a) s.place)
     × (sink.held b ≡ fed sink.step (sink.held a) (digits (t.number s.divisor) (t.number s.rest) s.place (min (sink.left a) s.place)))
-integrated t sink s a b (Whole x) i = (i.2.1.taken, i.2.1.held)
-integrated t sink s a b (Fraction x) i = (i.3.1.taken, i.3.1.held)
+    × sink.on a b
+integrated t sink s a b (Whole x) i = (i.2.1.taken, i.2.1.held, i.3)
+integrated t sink s a b (Fraction x) i = (i.3.1.taken, i.3.1.held, i.4)
 
 -- without the zeros at its end a whole number is its front
 pub held_front : (n d w z front : ℕ) → 0 < d → n < 10 ^ w * d → 4 * z < w → front * 10000 ^ z ≡ n / d → fed shifted 0 (digits d n w (w - 4 * z)) ≡ front

@@ -51,8 +51,7 @@ impl<'a> GroupSink<'a> {
     fn skip(&mut self)
         requires left { 0 < self.old.left }
         requires empty { (self.old.count ≡ 0) × (self.old.group ≡ 0) }
-        ensures on { groups.on self.old self.new }
-        ensures takes { Takes groups self.old (0 ∷ []) self.new }
+        ensures { Takes groups self.old (0 ∷ []) self.new }
     {
         let left = self.left - 1;
         self.places = (self.places + 1) % 4;
@@ -66,8 +65,7 @@ impl<'a> GroupSink<'a> {
         requires digit { digit < 10 }
         requires left { 0 < self.old.left }
         requires first { self.old.count ≡ 0 → 0 < self.old.group + digit }
-        ensures on { groups.on self.old self.new }
-        ensures takes { Takes groups self.old (digit ∷ []) self.new }
+        ensures { Takes groups self.old (digit ∷ []) self.new }
     {
         let left = self.left - 1;
         let state = after(GroupState::Filling, left);

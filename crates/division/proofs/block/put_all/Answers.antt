@@ -18,7 +18,7 @@ loop-groups-init g c =
     let long = length_digits 1 c.split-first.result.0 above above in (
       omega arith,
       rw c.split-first.ensures.1 (mod-lt c.args.number (ten_pos (4 * groups))),
-      omega (arith, c.put_group.ensures.takes.left),
+      omega (arith, c.put_group.ensures.took.left),
       remain_all s.step _ _,
       g.met.S.DigitSink.order.stays _,
     )
@@ -33,7 +33,7 @@ pub loop-groups-preserved : goal.loop-groups-preserved
 loop-groups-preserved g c =
     let s = g.S.DigitSink in
     let inv = c.loop-groups.invariant in
-    let takes = c.put_group-in-loop-groups.ensures.takes in (
+    let takes = c.put_group-in-loop-groups.ensures.took in (
       omega arith,
       rw c.split-four.ensures.1 (mod-lt c.loop-groups.rest (ten_pos (4 * (c.loop-groups.groups - 1)))),
       omega (arith, takes.left),
@@ -41,9 +41,14 @@ loop-groups-preserved g c =
       g.met.S.DigitSink.order.joins _ _ _ inv.4 c.put_group-in-loop-groups.ensures.on,
     )
 
-pub returns-clause-takes : goal.returns-clause-takes
-returns-clause-takes g c =
+pub returns : goal.returns
+returns g c =
     let parts = c.split-first.ensures in
-    takes_parts g.S.DigitSink.step c.args.number c.args.count ((c.args.count - 1) / 4) c.split-first.result.0 c.split-first.result.1 _ _ _ (omega arith) c.requires.number parts.0 parts.1
-    c.put_group.ensures.takes
-    (groups_done g.S.DigitSink.step _ _ c.loop-groups.rest c.loop-groups.groups _ c.loop-groups-test.false c.loop-groups.invariant.3)
+    let s = g.S.DigitSink in
+    record {
+      took =
+          takes_parts s.step c.args.number c.args.count ((c.args.count - 1) / 4) c.split-first.result.0 c.split-first.result.1 _ _ _ (omega arith) c.requires.number parts.0 parts.1
+          c.put_group.ensures.took
+          (groups_done s.step _ _ c.loop-groups.rest c.loop-groups.groups _ c.loop-groups-test.false c.loop-groups.invariant.3);
+      on = g.met.S.DigitSink.order.joins _ _ _ c.put_group.ensures.on c.loop-groups.invariant.4;
+    }

@@ -14,7 +14,7 @@ digits-preserved g c =
       g.met.S.DigitSink.order.joins _ _ _ inv.2 c.in-More.ensures.on,
     )
 
-pub returns-after-digits-clause-went : goal.returns-after-digits-clause-went
-returns-after-digits-clause-went g c =
+pub returns-after-digits : goal.returns-after-digits
+returns-after-digits g c =
     let d = g.T.CountingNumber.number c.args.first.divisor in
-    (c.digits.invariant.0, due_none g.S.DigitSink.step d _ _ _ _ _ _ _ _ (coming_over d _ _ (c.digits-test.ensures.0 refl)) c.digits.invariant.1)
+    (c.digits.invariant.0, due_none g.S.DigitSink.step d _ _ _ _ _ _ _ _ (coming_over d _ _ (c.digits-test.ensures.0 refl)) c.digits.invariant.1, c.digits.invariant.2)

@@ -9,8 +9,8 @@ put_all-requires-clause-few g c =
     let sound = state.sound in
     few_places state.place (g.T.CountingNumber.number state.unit) _ sound.unit sound.divisor (omega (arith, sound.fits, g.met.T.CountingNumber.widest))
 
-pub returns-clause-went : goal.returns-clause-went
-returns-clause-went g c =
+pub returns : goal.returns
+returns g c =
     let number = g.T.CountingNumber.number in
     let state = c.args.state in
     let m = number state.rest in
@@ -23,6 +23,7 @@ returns-clause-went g c =
       omega (arith, divided.2),
       (
         sound.place,
-        went_whole d sound.divisor g.S.DigitSink.step m state.place c.to_u64.result _ _ _ sound.rest c.requires (c.to_u64.ensures ∙ divided.1) divided.2 c.put_all.ensures.takes,
+        went_whole d sound.divisor g.S.DigitSink.step m state.place c.to_u64.result _ _ _ sound.rest c.requires (c.to_u64.ensures ∙ divided.1) divided.2 c.put_all.ensures.took,
       ),
+      c.put_all.ensures.on,
     )

@@ -52,7 +52,8 @@ returns g c =
     let rr : r ≡ rest d n 0 k = c.after_zeros-fraction.ensures.1 in
     let first = c.new-sink.result in
     let last = c.divide_rem_resume.new.sink in
-    let went = (rw c.unwrap-resumed.ensures at c.divide_rem_resume.ensures.resumes).1.2 in
+    let resumed = rw c.unwrap-resumed.ensures at c.divide_rem_resume.ensures.resumes in
+    let went = resumed.1.2 in
     let left : first.left ≡ s - k = omega (arith, c.new-sink.ensures.begins.left, more.0, more.1, c.requires.room) in
     let sum : k + (s - k) ≡ s = omega arith in
     let all : coming d' r first.left ≡ s - k =
@@ -63,8 +64,8 @@ returns g c =
     ∙ held_after n d k s shaped.0 shaped.2 (omega arith) in
     let final : c.finish.new.self.0 ≡ placed c.args.part.now 0 (flat_map word_bytes (groups_of (cut n d s) s)) =
     ended_fraction c.args.part.now first last c.finish.new.self.0 (cut n d s) s 0 (s - k)
-    c.divide_rem_resume.ensures.on c.new-sink.ensures.buffer.0 c.new-sink.ensures.buffer.2 c.new-sink.ensures.begins.taken
+    resumed.2 c.new-sink.ensures.buffer.0 c.new-sink.ensures.buffer.2 c.new-sink.ensures.begins.taken
     (c.new-sink.ensures.places (omega (arith, more.0)))
     (went.taken ∙ omega (arith, c.new-sink.ensures.begins.taken, all)) held (omega arith) (omega (arith, shaped.1)) c.finish.ensures in
-    let lender = c.divide_rem_resume.ensures.on.lender ∙ c.new-sink.ensures.buffer.1 in
+    let lender = resumed.2.lender ∙ c.new-sink.ensures.buffer.1 in
     search rules

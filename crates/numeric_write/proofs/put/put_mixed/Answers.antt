@@ -36,7 +36,8 @@ returns g c =
     let dd : d' ≡ d = ap g.T.CountingNumber.number c.fraction_after-fraction.ensures.divisor.0 in
     let rr : r ≡ rest d n w w = whole.state in
     let after : mid.left ≡ s = omega (arith, whole.left) in
-    let went = (rw c.unwrap-resumed.ensures at c.divide_rem_resume.ensures.resumes).1.2 in
+    let resumed = rw c.unwrap-resumed.ensures at c.divide_rem_resume.ensures.resumes in
+    let went = resumed.1.2 in
     let more : coming d' r mid.left ≡ s =
     ap (λ x. coming x r mid.left) dd ∙ ap (λ x. coming d x mid.left) (rr ∙ rest_whole n d w some enough) ∙ ap (coming d (n % d)) after ∙ m.reached in
     let half = whole.held ∙ ap (λ h. fed shifted h (digits d n w w)) c.new-sink.ensures.begins.held in
@@ -45,7 +46,7 @@ returns g c =
     ∙ ap (λ x. fed shifted (fed shifted 0 (digits d n w w)) (digits x r 0 s)) dd
     ∙ ap (λ x. fed shifted (fed shifted 0 (digits d n w w)) (digits d x 0 s)) rr
     ∙ held_cut n d w s some enough in
-    let on = goes_order.joins first mid last c.fraction_after-fraction.ensures.on c.divide_rem_resume.ensures.on in
+    let on = goes_order.joins first mid last c.fraction_after-fraction.ensures.on resumed.2 in
     let final : c.finish.new.self.0 ≡ placed c.args.part.now 0 (flat_map word_bytes (groups_of (cut n d s) s)) =
     ended_fraction c.args.part.now first last c.finish.new.self.0 (cut n d s) s (f % 4) (w + s)
     on c.new-sink.ensures.buffer.0 c.new-sink.ensures.buffer.2 c.new-sink.ensures.begins.taken

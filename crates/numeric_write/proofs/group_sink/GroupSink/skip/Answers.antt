@@ -28,7 +28,7 @@ returns c =
     let none = held_none s.buffer.now s.count s.places s.group c.requires.empty.0 c.requires.empty.1 in
     record {
       on = record { lender = refl; step = omega arith; laid = λ b h. h };
-      takes = record {
+      took = record {
         taken = omega arith;
         left = omega arith;
         held = omega (arith, none, held_none s.buffer.now s.count ((s.places + 1) % 4) s.group c.requires.empty.0 c.requires.empty.1);
