@@ -24,6 +24,7 @@ pub fn pack_records<R: Read, W: Write + Drop>(
     let mut chunk = Vec::with_capacity(alloc, CHUNK + 1).map_err(|_| Failure::Memory)?;
     let mut page = BufWriter::with_capacity(alloc, PAGE, output).map_err(|_| Failure::Memory)?;
     let mut tally = Tally::new();
+    // Until the input ends: a loop without a bound would need a handle.
     for _ in 0..u64::MAX {
         let read = read_chunk(input, &mut chunk);
         pack_chunk(&chunk[..], &mut tally, &mut page).map_err(Failure::Write)?;

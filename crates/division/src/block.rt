@@ -5,6 +5,7 @@ ghost use Rattle.division.specs.Sink.{Takes};
 
 use crate::sink::{Answer, DigitSink};
 
+// A digit is a u8 with a clause, here and in the sinks: the interface offers any u8, and a type for it would be opened in each.
 pub(crate) fn put<S: DigitSink>(sink: &mut S, digit: u8)
     requires digit { digit < 10 }
     requires some { 0 < S.left sink.old }

@@ -10,6 +10,7 @@ use crate::sink::{Answer, DigitSink};
 
 #[derive(Drop)]
 pub struct TextSink<'a> {
+    // The caller's own.
     buffer: &'a mut [u8],
     taken: u16,
 }

@@ -31,6 +31,7 @@ impl<T: GenericInteger> GenericFraction<T> {
         }
     }
 
+    // Each maker of the source has its own name; what they share is one function.
     pub fn new(num: T, den: T) -> GenericFraction<T>
         ensures made { Made Plus (T.number num) (T.number den) (meant result) }
         ensures only { Only Plus (T.number num) (T.number den) (meant result) }

@@ -12,6 +12,7 @@ pub trait CountingNumber: Copy {
     // The greatest number that the type holds.
     ghost greatest: { ℕ };
 
+    // This and the next are the interface's own: From and TryFrom say nothing of `number`.
     fn to_u64(self) -> u64
         ensures { result ≡ number self };
 

@@ -1,4 +1,4 @@
-// The words that PostgreSQL's layout fixes.
+// The words that PostgreSQL's layout fixes, by their source's names; other code says `SignWord`.
 pub const PG_POS: u16 = 0x0000;
 
 pub const PG_NEG: u16 = 0x4000;

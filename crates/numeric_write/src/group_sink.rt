@@ -9,6 +9,7 @@ pub(crate) mod filling;
 
 #[derive(Drop)]
 pub struct GroupSink<'a> {
+    // The caller's own.
     buffer: &'a mut [u8],
     // How many groups stand in the buffer.
     count: usize,

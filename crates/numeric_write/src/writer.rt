@@ -14,6 +14,8 @@ use generic::integer::GenericInteger;
 use numeric::fault::PackageFault;
 use numeric::layout::PG_MAX_PRECISION;
 
+// The buffer and its count are the caller's own, and the count may be any.
+
 // Writes the package of a fraction behind the used bytes of the buffer, and counts its bytes as used. Refused with 9, and the
 // bytes needed, exactly where they exceed what is free; then nothing changes.
 pub fn fraction_to_sql_buf<T: GenericInteger>(

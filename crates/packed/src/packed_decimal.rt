@@ -26,7 +26,8 @@ fn all_digits(word: u64) -> bool
 }
 
 impl PackedDecimal {
-    // The packed decimal of this word; refused with 10 exactly when four of its bits are above 9.
+    // The packed decimal of this word; refused with 10 exactly when four of its bits are above 9. No TryFrom: a u64 may be a
+    // word or a number.
     pub fn from_word(word: u64) -> Result<PackedDecimal, PackedFault>
         ensures { OrRefused (λ p. p.word) refusal result (AllDigits 16 word) word (refuses 10 []) }
     {

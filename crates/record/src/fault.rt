@@ -28,7 +28,7 @@ pub enum RecordFault {
 }
 
 impl InputFault {
-    // The number of the refusal.
+    // The number of the refusal, which its line shows.
     pub fn number(self) -> u8
         ensures { result ≡ (refusal self).number }
     {

@@ -34,7 +34,7 @@ impl TryFrom<u8> for Kind {
 }
 
 impl Kind {
-    // The number that a word of 64 bits writes in this type.
+    // The number that a word of 64 bits writes in this type, which is known only from the record.
     pub fn read(self, word: u64) -> Result<u64, InputFault>
         ensures { result ≡ number_of self word }
     {

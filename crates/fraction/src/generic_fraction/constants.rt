@@ -1,4 +1,4 @@
-// The fractions that take no number.
+// The fractions that take no number, by their source's names.
 ghost use Rattle.std.specs.Prelude.{◌≡◌};
 ghost use Rattle.generic.specs.declared.sign.Sign.TheVariants.{Plus, Minus};
 ghost use Rattle.fraction.specs.Meaning.{rational, infinity, nan, meant};

@@ -1,4 +1,4 @@
-// What is read from a fraction.
+// What is read from a fraction, by the source's names.
 ghost use Rattle.std.specs.Prelude.{◌≡◌, Decides};
 ghost use Rattle.std.specs.Option.{option_map};
 ghost use Rattle.fraction.specs.Meaning.{nan, meant, numerator, denominator, signed, Zero, Infinite};
