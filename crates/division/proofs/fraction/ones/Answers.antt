@@ -1,5 +1,5 @@
-use Rattle.std.proofs.Common.{refl, ◌∙◌}
-use Rattle.division.proofs.Due.{due_fraction, due_none, coming_over}
+use Rattle.std.proofs.Common.{◌∙◌}
+use Rattle.division.proofs.Due.{due_fraction}
 use Rattle.division.proofs.Tests.{not_zero}
 use Rattle.division.proofs.fraction.ones.Goals as goal
 
@@ -13,8 +13,3 @@ digits-preserved g c =
       due_fraction g.S.DigitSink.step d _ _ _ _ _ _ _ _ _ some (rw inv.0 at next.digits) (rw inv.0 at next.remainder) c.in-More.ensures.offered.2 inv.1,
       g.met.S.DigitSink.order.joins _ _ _ inv.2 c.in-More.ensures.on,
     )
-
-pub returns-after-digits : goal.returns-after-digits
-returns-after-digits g c =
-    let d = g.T.CountingNumber.number c.args.first.divisor in
-    (c.digits.invariant.0, due_none g.S.DigitSink.step d _ _ _ _ _ _ _ _ (coming_over d _ _ (c.digits-test.ensures.0 refl)) c.digits.invariant.1, c.digits.invariant.2)

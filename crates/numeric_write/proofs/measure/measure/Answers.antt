@@ -1,7 +1,6 @@
 use Rattle.std.proofs.Common.{◌≡◌, ℕ, ◌/◌, ◌<◌, sym, ◌∙◌, subst, arith}
-use Rattle.division.specs.Whole.{Width}
 use Rattle.numeric_write.specs.Measure.{Sized}
-use Rattle.numeric_write.proofs.Measuring.{apart, below_is, below_rest, above_is, sized_as, scale_from, scale_some, scale_within, width_quotient, sized_quotient, sized_mixed}
+use Rattle.numeric_write.proofs.Measuring.{apart, below_is, below_rest, above_is, sized_as, scale_from, scale_some, scale_within, sized_quotient, sized_mixed}
 use Rattle.numeric_write.proofs.measure.measure.Goals as goal
 
 pub below_one-requires : goal.below_one-requires
@@ -32,16 +31,6 @@ returns-then-is_zero g c =
       scale = same ∙ scale_from n d c.args.precision.digits r c.fraction_length-scale.result divided.2 length;
       sized = subst (λ s. Sized n d c.args.places s is.shape is.groups is.weight) (sym same) (sized c.args.places);
     }
-
-pub whole_number-requires : goal.whole_number-requires
-whole_number-requires g c =
-    let n : ℕ = g.T.CountingNumber.number c.args.ratio.numer in
-    let d : ℕ = g.T.CountingNumber.number c.args.ratio.denom in
-    let divided = rw (c.numer-n.ensures, c.denom-d.ensures) at (rw c.unwrap-whole.ensures at c.div_rem.ensures) in
-    let length = rw c.denom-d.ensures at c.fraction_length-scale.ensures in
-    let x : ℕ = g.T.CountingNumber.number c.unwrap-whole.result.0 in
-    let some : x ≡ 0 → ⊥ = λ z. apart c.is_zero.result (c.is_zero.ensures.1 z) c.if-is_zero.false in
-    (omega (arith, some), subst (λ y. Width y 1 c.args.places) (sym divided.1) (width_quotient n d c.args.places c.args.ratio.positive c.requires.places))
 
 pub returns-then-scale-eq0 : goal.returns-then-scale-eq0
 returns-then-scale-eq0 g c =

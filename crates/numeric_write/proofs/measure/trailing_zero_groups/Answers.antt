@@ -1,13 +1,6 @@
-use Rattle.std.proofs.Common.{◌≡◌, ℕ, ◌+◌, ◌*◌, ◌%◌, ◌^◌, ◌<◌, sym, ap, ◌∙◌, arith}
-use Rattle.numeric_write.proofs.Measuring.{few_zeros, zeros_more, ending_by, apart}
+use Rattle.std.proofs.Common.{◌≡◌, ℕ, ◌+◌, ◌*◌, ◌%◌, ◌^◌, sym, ap, ◌∙◌, arith}
+use Rattle.numeric_write.proofs.Measuring.{zeros_more}
 use Rattle.numeric_write.proofs.measure.trailing_zero_groups.Goals as goal
-
-pub overflow_add-zeros : goal.overflow_add-zeros
-overflow_add-zeros g c =
-    let x : ℕ = g.T.CountingNumber.number c.args.whole in
-    let r : ℕ = g.T.CountingNumber.number c.groups.rest in
-    let narrow : x < 2 ^ 64 = omega (arith, g.met.T.CountingNumber.within c.args.whole, g.met.T.CountingNumber.widest) in
-    omega (arith, few_zeros x r c.groups.zeros narrow c.groups.invariant.0 c.groups.invariant.1)
 
 pub groups-preserved : goal.groups-preserved
 groups-preserved g c =
@@ -16,9 +9,3 @@ groups-preserved g c =
     let divided = rw (c.from_u16-base.ensures) at (rw c.unwrap-above.ensures at c.div_rem.ensures) in
     let last : r % 10000 ≡ 0 = sym divided.2 ∙ c.is_zero.ensures.0 c.if-not-is_zero.false in
     (omega (arith, c.groups.invariant.0, divided.1), ap (λ k. k * 10000 ^ (c.groups.zeros + 1)) divided.1 ∙ zeros_more x r c.groups.zeros last c.groups.invariant.1)
-
-pub returns : goal.returns
-returns g c =
-    let r : ℕ = g.T.CountingNumber.number c.groups.rest in
-    let divided = rw (c.from_u16-base.ensures) at (rw c.unwrap-above.ensures at c.div_rem.ensures) in
-    ending_by _ r _ c.groups.invariant.1 (λ z. apart c.is_zero.result (c.is_zero.ensures.1 (divided.2 ∙ z)) c.if-not-is_zero.true)

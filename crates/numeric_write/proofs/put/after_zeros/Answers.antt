@@ -1,29 +1,7 @@
-use Rattle.std.proofs.Common.{◌≡◌, ℕ, ◌-◌, min, sym, ap, ◌∙◌, arith}
+use Rattle.std.proofs.Common.{◌≡◌, ℕ, ◌-◌, min, ap, ◌∙◌, arith}
 use Rattle.division.specs.Expansion.{rest, coming}
-use Rattle.division.specs.Sinks.{counter}
-use Rattle.numeric_write.proofs.Putting.{lone_zero, lone_rest, accepted}
+use Rattle.numeric_write.proofs.Putting.{lone_zero, lone_rest}
 use Rattle.numeric_write.proofs.put.after_zeros.Goals as goal
-
-pub fraction_after-fraction-requires : goal.fraction_after-fraction-requires
-fraction_after-fraction-requires g c =
-    omega (arith, lone_zero _ _ c.args.state.place c.requires.below c.requires.opened, c.new-zeros.ensures.left)
-
-pub returns-then-passed-eq0 : goal.returns-then-passed-eq0
-returns-then-passed-eq0 g c =
-    let number = g.T.CountingNumber.number in
-    let n : ℕ = number c.args.state.rest in
-    let d : ℕ = number c.args.state.divisor in
-    let w : ℕ = c.args.state.place in
-    let one : w ≡ 1 = lone_zero n d w c.requires.below c.requires.opened in
-    let whole = c.fraction_after-fraction.ensures in (
-      whole.divisor.0,
-      whole.went.state ∙ ap (rest d n w) one ∙ lone_rest n d w c.requires.below one ∙ sym (ap (rest d n 0) c.if-passed-eq0.true),
-    )
-
-pub unwrap-requires : goal.unwrap-requires
-unwrap-requires g c =
-    let fraction = c.fraction_after-fraction.result in
-    accepted g.T.CountingNumber counter fraction.remainder fraction.divisor _ _ _ c.fraction_after-fraction.ensures.divisor.1 c.divide_rem_resume.ensures.resumes
 
 pub returns : goal.returns
 returns g c =

@@ -4,9 +4,6 @@ use Rattle.numeric_write.proofs.Filling.{finished_none, held_filled}
 use Rattle.numeric_write.proofs.group_sink.GroupSink.finish.Goals as goal
 use Rattle.numeric_write.proofs.group_sink.GroupSink.finish.Goals.{then-places-gt0, else-places-gt0}
 
-pub put_last-requires : goal.put_last-requires
-put_last-requires c = record { room = omega (arith, c.args.self.room); small = c.filled.ensures.1 }
-
 pub returns : goal.returns
 returns c before l =
     let s = c.args.self in

@@ -2,7 +2,7 @@ use Rattle.std.proofs.Common.{◌≡◌, true, ltb, length, refl, ap, ◌∙◌,
 use native.Mathlib.Nat.{one-le-pow}
 use Rattle.numeric_write.specs.States.{going, fills}
 use Rattle.numeric_write.specs.declared.group_state.GroupState.TheVariants.{Skipping}
-use Rattle.numeric_write.proofs.Filling.{going_after, skipping_fills, held_none, first_some, first_open, first_room}
+use Rattle.numeric_write.proofs.Filling.{going_after, skipping_fills, first_open, first_room}
 use Rattle.numeric_write.proofs.group_sink.GroupSink.new.Goals as goal
 
 pub invariant_of-result : goal.invariant_of-result
@@ -21,10 +21,3 @@ invariant_of-result c =
       zeros = λ h. refl;
       begun = λ h z. absurd (never h);
     }
-
-pub returns : goal.returns
-returns c = record {
-  begins = record { taken = refl; left = omega arith; held = held_none c.args.buffer.now 0 c.first_places.result 0 refl refl };
-  places = λ some. first_some c.args.places c.min-left.result c.first_places.result c.first_places.ensures some;
-  buffer = (refl, refl, refl);
-}

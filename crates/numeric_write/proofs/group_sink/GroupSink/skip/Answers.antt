@@ -2,7 +2,7 @@ use Rattle.std.proofs.Common.{◌≡◌, ◌+◌, ◌-◌, ◌%◌, true, ltb, r
 use native.Mathlib.Nat.{one-le-pow}
 use Rattle.numeric_write.specs.States.{going, fills}
 use Rattle.numeric_write.specs.declared.group_state.GroupState.TheVariants.{Skipping}
-use Rattle.numeric_write.proofs.Filling.{going_after, skipping_fills, held_none}
+use Rattle.numeric_write.proofs.Filling.{going_after, skipping_fills}
 use Rattle.numeric_write.proofs.group_sink.GroupSink.skip.Goals as goal
 
 pub invariant_of-self : goal.invariant_of-self
@@ -20,17 +20,4 @@ invariant_of-self c =
       empty = λ h. c.requires.empty.0;
       zeros = λ h. c.requires.empty.1;
       begun = λ h z. absurd (never h);
-    }
-
-pub returns : goal.returns
-returns c =
-    let s = c.args.self.now in
-    let none = held_none s.buffer.now s.count s.places s.group c.requires.empty.0 c.requires.empty.1 in
-    record {
-      on = record { lender = refl; step = omega arith; laid = λ b h. h };
-      took = record {
-        taken = omega arith;
-        left = omega arith;
-        held = omega (arith, none, held_none s.buffer.now s.count ((s.places + 1) % 4) s.group c.requires.empty.0 c.requires.empty.1);
-      };
     }
