@@ -77,7 +77,7 @@ fn split(number: u64, groups: u8) -> (u16, u64)
     }
 }
 
-// The same for one to twenty digits: in groups of four after the first.
+// As many digits of a number below ten to their count, one to twenty, in groups of four after the first.
 pub(crate) fn put_all<S: DigitSink>(sink: &mut S, number: u64, count: u8)
     requires any { 0 < count }
     requires few { count ≤ 20 }

@@ -53,6 +53,7 @@ impl<'a> DigitSink for TextSink<'a> {
 
     ghost on = { text.on };
 
+    // As the counter's but for the put: a default in the trait would need one more member, for what taking does.
     fn offer(&mut self, digit: u8) -> Answer {
         if digit > 9 {
             return Answer::NotDigit;

@@ -11,8 +11,6 @@ pub fn fraction_length(r: u16, d: u16, most: u16) -> Option<u16>
     ensures { MatchOption result (d ≤ r) (λ n. (r < d) × (n ≡ coming d r most)) }
 {
     let mut count = Counter::new(most);
-    match divide_rem(r, d, &mut count) {
-        Ok(_) => Some(count.taken()),
-        Err(_) => None,
-    }
+    divide_rem(r, d, &mut count).ok()?;
+    Some(count.taken())
 }

@@ -14,8 +14,6 @@ pub fn fraction_text(r: u16, d: u16, buffer: &mut [u8]) -> Option<u16>
     ensures behind { MatchOption result (buffer.new ≡ buffer.old) (λ k. (i : ℕ) → k ≤ i → slice_index buffer.new i ≡ slice_index buffer.old i) }
 {
     let mut sink = TextSink::new(buffer);
-    match divide_rem(r, d, &mut sink) {
-        Ok(_) => Some(sink.taken()),
-        Err(_) => None,
-    }
+    divide_rem(r, d, &mut sink).ok()?;
+    Some(sink.taken())
 }

@@ -4,7 +4,7 @@ ghost use Rattle.fraction.specs.Made.{Made, MadeRaw, Only};
 ghost use Rattle.fraction.specs.Meaning.{meant};
 
 use crate::fault::FractionFault;
-use crate::ratio::Ratio;
+pub use crate::ratio::Ratio;
 use generic::integer::GenericInteger;
 use generic::sign::Sign;
 

@@ -14,7 +14,7 @@ pub struct Ratio<T: GenericInteger> {
     ghost positive: { 0 < T.number denom },
 }
 
-// By hand: no derive gives it beside a ghost field over a type parameter.
+// By hand: the check refuses to derive it beside a ghost field over a type parameter (derive-over-ghost-field).
 impl<T: GenericInteger> Clone for Ratio<T> {
     ghost is_clone = { λ s r. r ≡ s };
 

@@ -11,6 +11,7 @@ pub trait GenericInteger: CountingNumber {
         Self::from_u16(10)
     }
 
+    // This and to_u8 are the interface's own, as to_u64 and from_u64 are.
     fn from_u16(word: u16) -> Self
         ensures { Self.number result ≡ word }
     {

@@ -1,5 +1,5 @@
 // The machine's unsigned numbers as counting numbers and as integers for generic code: each means itself.
-// What a type gives here no trait can know of it. `itself` says what `meaning` leaves open, that no value is cut.
+// Each writes these few lines, since no macro may write an impl. `itself` says what `meaning` leaves open: no value is cut.
 ghost use Rattle.std.specs.Prelude.{◌≡◌, min};
 ghost use Rattle.std.proofs.Common.{rules};
 

@@ -15,6 +15,7 @@ pub enum SignWord {
     MinusInfinity,
 }
 
+// One sign has two words, so there is no From<Sign>.
 impl SignWord {
     // Of a number with the sign.
     pub fn of_number(sign: Sign) -> SignWord

@@ -5,6 +5,6 @@ pub enum GroupState {
     Skipping,
     // Another digit has come.
     Filling,
-    // All digits have come.
+    // All digits have come: what is left says so too, but one match of state and digit answers every offer.
     Spent,
 }

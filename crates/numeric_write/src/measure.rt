@@ -57,6 +57,8 @@ fn fraction_length<T: GenericInteger>(remainder: T, divisor: T, most: u16) -> u1
     }
 }
 
+// Below 1 is said of two numbers, here and below: the division keeps its type for it to itself.
+
 // How many zeros stand before the first other digit of a fraction below 1: one less than the whole digits of (d - 1) over n.
 fn leading_zeros<T: GenericInteger>(n: T, d: T) -> u8
     requires { (0 < T.number n) × (T.number n < T.number d) }
@@ -87,10 +89,9 @@ fn trailing_zero_groups<T: GenericInteger>(whole: T) -> u8
 
 // How many groups hold so many digits.
 fn groups_for(digits: u16) -> u16
-    requires { digits ≤ 16383 }
     ensures { result ≡ fours digits }
 {
-    (digits + 3) / 4
+    digits.div_ceil(4)
 }
 
 // The weight of a fraction below 1 of which so many full groups are left out.

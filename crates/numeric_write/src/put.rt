@@ -57,8 +57,7 @@ fn fraction_after<T: GenericInteger, S: DigitSink>(
     }
 }
 
-// Each shape puts its groups by its own calls. Room and result are said of each as of all: a type that held the part beside what is
-// measured would be made for one call.
+// Room and result are said of each shape as of all: a type of part and measure together would be made for one call.
 
 // The groups of a fraction below 1, with so many zeros of it passed over.
 fn put_below<T: GenericInteger>(part: &mut [u8], measured: Measured<T>, passed: u8)

@@ -46,7 +46,7 @@ fn read_sign(byte: u8) -> Result<Sign, RecordFault>
     }
 }
 
-// The 16 bits at byte k.
+// The 16 bits at byte k; this and the next say in what type the bytes are read.
 fn word_at(record: &[u8; RECORD_BYTES], k: usize) -> u16
     requires { k + 2 ≤ 20 }
     ensures { result ≡ bytes_number 2 k record.now }
