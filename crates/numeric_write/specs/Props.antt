@@ -1,7 +1,6 @@
 -- A measured fraction has its shape in one way.
 use Rattle.std.specs.Prelude.{ℕ}
 use Rattle.std.proofs.Props.{props}
-use Prim.{hlevel}
 use Rattle.numeric_write.specs.Measure.{Shaped}
 use Rattle.numeric_write.specs.declared.shape.Shape.{Shape}
 use Rattle.numeric_write.specs.declared.shape.Shape.TheVariants.{Below, Mixed, Whole}
