@@ -1,5 +1,5 @@
 // Packs a depth by a plain loop: five million records take 0.38 s by it, and 0.90 s by the writer of numeric_write. It writes
-// digits of text and no bytes, so it has a header of its own; its constants are such that the compiler makes no division.
+// digits of text and no bytes, so it has a header of its own; its powers of ten are constants, so that it divides by d alone.
 // A package is four words (number of groups, weight, sign, scale) and then groups of four decimal digits, each a word.
 ghost use Rattle.std.specs.Prelude.{◌≡◌, ◌+◌, ◌*◌, ◌/◌, ◌%◌, ◌<◌, ◌≤◌, length};
 

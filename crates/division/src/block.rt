@@ -5,7 +5,7 @@ ghost use Rattle.division.specs.Sink.{Takes};
 
 use crate::sink::{Answer, DigitSink};
 
-// A digit is a u8 with a clause, here and in the sinks: the interface offers any u8, and a type for it would be opened in each.
+// Offers a digit that the sink takes. A digit is a u8 with a clause, here and in the sinks, since the interface offers any u8.
 pub(crate) fn put<S: DigitSink>(sink: &mut S, digit: u8)
     requires digit { digit < 10 }
     requires some { 0 < S.left sink.old }
@@ -31,8 +31,7 @@ pub(crate) fn put_four<S: DigitSink>(sink: &mut S, number: u16)
     put(sink, (tens % 10) as u8);
 }
 
-// As many digits of a number below ten to their count, one to four, highest first. Each count is written out, so that each
-// divisor is a constant, by which the compiler makes no division.
+// As many digits of a number below ten to their count, one to four, highest first. Each count is written out, as in split.
 fn put_group<S: DigitSink>(sink: &mut S, number: u16, count: u8)
     requires any { 0 < count }
     requires few { count ≤ 4 }

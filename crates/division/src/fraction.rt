@@ -39,6 +39,7 @@ fn ones<T: GenericInteger, S: DigitSink>(first: Proper<T>, sink: &mut S) -> Prop
                 break;
             }
             Answer::Full => break,
+            // No digit of a fraction is above 9.
             Answer::NotDigit => unreachable(),
         }
     }
@@ -75,6 +76,7 @@ pub fn divide_rem_resume<T: GenericInteger, S: DigitSink>(
                 state: DivisionState { remainder, divisor },
             })
         }
+        // No `?`: the state goes back with the fault.
         Err(fault) => Err(Refused { state, fault }),
     }
 }

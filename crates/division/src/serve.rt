@@ -38,6 +38,7 @@ pub fn serve_rem<T: GenericInteger, S: DigitSink>(
     serve_on(Division::Fraction { state }, sinks)
 }
 
+// From a state in the whole part on.
 fn serve_opened<T: GenericInteger, S: DigitSink>(
     state: IntegralState<T>,
     sinks: &mut [S],

@@ -33,7 +33,7 @@ impl<T: Copy> DivisionState<T> {
     }
 }
 
-// The fraction after a call: the state that follows the digits taken.
+// The fraction after a call: the state that follows the digits taken. A struct, so that a call can tell more later.
 #[derive(Drop)]
 pub struct Resumed<T> {
     pub state: DivisionState<T>,

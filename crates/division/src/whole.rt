@@ -106,6 +106,7 @@ fn advance<T: GenericInteger, S: DigitSink>(first: IntegralState<T>, sink: &mut 
     'digits: loop {
         let (digit, rest) = state.rest.div_rem(state.unit).unwrap();
         match sink.offer(digit.to_u8().unwrap()) {
+            // No digit of a whole part is above 9.
             Answer::NotDigit => unreachable(),
             Answer::Full => return Division::Whole { state },
             Answer::Enough => return after(state, rest),

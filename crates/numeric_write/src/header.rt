@@ -17,7 +17,7 @@ pub(crate) struct Header {
 }
 
 impl Header {
-    // Before no group.
+    // Of a package without groups.
     pub(crate) fn bare(sign: SignWord) -> Header
         ensures { (result.groups ≡ 0) × (signed_word result.weight ≡ 0) × (result.sign ≡ sign) × (result.scale ≡ 0) }
     {

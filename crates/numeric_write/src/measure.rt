@@ -57,9 +57,8 @@ fn fraction_length<T: GenericInteger>(remainder: T, divisor: T, most: u16) -> u1
     }
 }
 
-// Below 1 is said of two numbers, here and below: the division keeps its type for it to itself.
-
 // How many zeros stand before the first other digit of a fraction below 1: one less than the whole digits of (d - 1) over n.
+// Here and in below_one a clause says that n is below d: the division's type for it is private.
 fn leading_zeros<T: GenericInteger>(n: T, d: T) -> u8
     requires { (0 < T.number n) × (T.number n < T.number d) }
     ensures { Width (T.number d - 1) (T.number n) (suc result) }

@@ -9,7 +9,7 @@ use generic::integer::GenericInteger;
 use generic::sign::Sign;
 use numeric::sign_word::SignWord;
 
-// Two cases by their names: a bare package has no digits to ask for.
+// A case of its own for no groups is plainer than an Option of a measure beside the sign.
 #[derive(Drop)]
 pub(crate) enum Plan<T: GenericInteger> {
     // A sign word and else zeros: zero, no number and the infinities.

@@ -51,15 +51,15 @@ fn fraction_after<T: GenericInteger, S: DigitSink>(
     ensures went { Went S.step (T.number state.divisor) (T.number state.rest) state.place state.place (tally S.DigitSink sink.old) (tally S.DigitSink sink.new) (T.number result.remainder) 0 }
     ensures on { S.on sink.old sink.new }
 {
+    // The sink takes all digits, so the whole part ends.
     match divide_integral(state, sink) {
         Division::Fraction { state } => state,
         Division::Whole { .. } => unreachable(),
     }
 }
 
-// Room and result are said of each shape as of all: a type of part and measure together would be made for one call.
-
-// The groups of a fraction below 1, with so many zeros of it passed over.
+// The groups of a fraction below 1, with so many zeros of it passed over. Room and result are said again in the next three: a type
+// of part and measure together would serve one call.
 fn put_below<T: GenericInteger>(part: &mut [u8], measured: Measured<T>, passed: u8)
     requires shape { measured.extent.shape ≡ Below passed }
     requires some { 0 < measured.extent.groups }

@@ -14,10 +14,8 @@ use generic::integer::GenericInteger;
 use numeric::fault::PackageFault;
 use numeric::layout::PG_MAX_PRECISION;
 
-// The buffer and its count are the caller's own, and the count may be any.
-
 // Writes the package of a fraction behind the used bytes of the buffer, and counts its bytes as used. Refused with 9, and the
-// bytes needed, exactly where they exceed what is free; then nothing changes.
+// bytes needed, exactly where they exceed what is free; then nothing changes. Buffer and count are the caller's own; the count may be any.
 pub fn fraction_to_sql_buf<T: GenericInteger>(
     source: &GenericFraction<T>,
     buffer: &mut [u8],

@@ -1,4 +1,4 @@
-// Why a record is refused.
+// Why a record asks for no package.
 ghost use Rattle.std.specs.Prelude.{◌≡◌};
 ghost use Rattle.record.specs.Faults.{refusal};
 ghost use Rattle.record.specs.declared.fault.InputFault.TheVariants.{NotDecimal};
@@ -17,7 +17,6 @@ pub enum InputFault {
     DoesNotFit,
 }
 
-// Why a record asks for no package.
 #[derive(Clone, Copy, PartialEq, Eq, Debug)]
 pub enum RecordFault {
     Refused(InputFault),

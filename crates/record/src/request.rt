@@ -35,7 +35,7 @@ pub fn judge(bytes: &[u8]) -> Result<Request, RecordFault>
     })
 }
 
-// No TryFrom: the type is another crate's.
+// The sign that a record's second byte names. No TryFrom: the type is another crate's.
 fn read_sign(byte: u8) -> Result<Sign, RecordFault>
     ensures { result ≡ sign_of byte }
 {

@@ -60,7 +60,7 @@ impl<'a> GroupSink<'a> {
         self.state = after(GroupState::Skipping, left);
     }
 
-    // A digit of which a group is filled; before the first group, not a zero.
+    // Fills the group with a digit; a zero only where another digit has come.
     fn fill(&mut self, digit: u8)
         requires digit { digit < 10 }
         requires left { 0 < self.old.left }

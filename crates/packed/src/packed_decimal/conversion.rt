@@ -27,8 +27,8 @@ pub(super) fn sixteen(word: u64) -> u64
     join(eights, 32, 100_000_000, 0x0000_0000_ffff_ffff)
 }
 
-// A division splits one part, not all at once. One function that calls itself on both halves takes five times as long, and one that
-// takes the half as a parameter leaves each size its own clauses.
+// The digits of n, by halves: all at once they cannot come, since a division splits one number. A function that calls itself takes
+// almost six times as long (in C), and one with the half as a parameter leaves each size its own clauses.
 #[tactic(auto, using(crate::proofs::Halves::writes_two))]
 fn pack_two(n: u64) -> u64
     requires { n < 100 }
