@@ -18,11 +18,17 @@ pub trait GenericInteger: CountingNumber {
         Self::from_u64(u64::from(word)).unwrap()
     }
 
-    // None exactly when the difference is below 0.
+    // None exactly when the difference is below 0. Compared first, the difference is known to have a place: from checked_sub of
+    // two u64 it isn't, and two equal u16 or u32 take half as long again.
     fn checked_sub(self, other: Self) -> Option<Self>
         ensures { Exactly Self.number result (Self.number other ≤ Self.number self) (Self.number self - Self.number other) }
     {
-        Self::from_u64(self.to_u64().checked_sub(other.to_u64())?)
+        let n = self.to_u64();
+        let m = other.to_u64();
+        if n < m {
+            return None;
+        }
+        Self::from_u64(n - m)
     }
 
     // None exactly when the product passes the greatest.

@@ -68,7 +68,7 @@ impl CountingNumber for u32 {
         ensures meaning { result ≡ min self 0xffff_ffff }
         ensures itself { result ≡ self }
     {
-        u64::from(self)
+        self.into()
     }
 
     fn from_u64(n: u64) -> Option<u32> {
