@@ -30,6 +30,8 @@ pub fn package_line(text: &mut [u8; LONGEST], request: Request) -> &[u8]
     let header = match request.depth {
         GenericFraction::NaN => bare(SignWord::NaN),
         GenericFraction::Infinity(sign) => bare(SignWord::of_infinity(sign)),
+        // No record comes to a fraction over 0.
+        GenericFraction::Rational(_, ratio) if ratio.denom() == 0 => bare(SignWord::NaN),
         GenericFraction::Rational(sign, ratio) => {
             put_groups(text, sign, ratio.numer(), ratio.denom(), request.precision)
         }
@@ -42,7 +44,7 @@ pub fn package_line(text: &mut [u8; LONGEST], request: Request) -> &[u8]
 
 // The header of a package of no group.
 fn bare(sign: SignWord) -> Header
-    ensures { result.groups ≤ 4_101 }
+    ensures { result.groups ≡ 0 }
 {
     Header {
         groups: 0,

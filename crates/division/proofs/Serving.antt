@@ -2,7 +2,7 @@
 use Rattle.std.proofs.Common.{◌≡◌, ℕ, ◌*◌, ◌^◌, ◌<◌, List, [], ◌∷◌, ◌++◌, sym, refl, ap, ◌∙◌, subst, one-mul, arith}
 use Rattle.generic.specs.declared.counting.CountingNumber as counting
 use Rattle.division.specs.Runs.{Kind, whole, Call, Made, Run, last_rest, last_place}
-use Rattle.division.specs.Serve.{divisor_of, rest_of, place_of, CanGoOn, Seen, Serves, Steps, Served}
+use Rattle.division.specs.Serve.{divisor_of, rest_of, place_of, SoundDivision, CanGoOn, Seen, Serves, Steps, Served}
 use Rattle.division.specs.declared.integral_state.IntegralState.{IntegralState}
 use Rattle.division.specs.declared.sink.DigitSink.{Ghosts}
 use Rattle.division.specs.Sink.{called}
@@ -30,13 +30,13 @@ last_place_more p [] c = refl
 last_place_more p (c' ∷ cs) c = last_place_more c'.place' cs c
 
 -- a division that can go on stands for a rest below its whole
-small : {X : Type 0} (g : counting.Ghosts X) (d : Division X g) → CanGoOn d → g.number (rest_of d) < 10 ^ place_of d * g.number (divisor_of d)
-small g (Whole s) can = s.sound.rest
-small g (Fraction s) can = omega (arith, one-mul (g.number s.divisor))
+small : {X : Type 0} (g : counting.Ghosts X) (d : Division X) → SoundDivision g d → CanGoOn g d → g.number (rest_of d) < 10 ^ place_of d * g.number (divisor_of d)
+small g (Whole s) sound can = sound.rest
+small g (Fraction s) sound can = omega (arith, one-mul (g.number s.divisor))
 
 -- what the law says of a run of calls belongs to it
-served : {X S : Type 0} (g : counting.Ghosts X) (sink : Ghosts S) (start after : Division X g) (ss ts : List S) (cs : List Call) → Serves sink cs ss ts → Run (g.number (divisor_of start)) (g.number (rest_of start)) (place_of start) cs → last_rest (g.number (rest_of start)) cs ≡ g.number (rest_of after) → last_place (place_of start) cs ≡ place_of after → divisor_of after ≡ divisor_of start → Served g sink start ss ts after
-served g sink start after ss ts cs serves run rest place divisor =
+served : {X S : Type 0} (g : counting.Ghosts X) (sink : Ghosts S) (start after : Division X) (ss ts : List S) (cs : List Call) → Serves sink cs ss ts → Run (g.number (divisor_of start)) (g.number (rest_of start)) (place_of start) cs → last_rest (g.number (rest_of start)) cs ≡ g.number (rest_of after) → last_place (place_of start) cs ≡ place_of after → divisor_of after ≡ divisor_of start → SoundDivision g start → SoundDivision g after → Served g sink start ss ts after
+served g sink start after ss ts cs serves run rest place divisor sound sound' =
     record {
       calls = cs;
       serves = serves;
@@ -44,16 +44,17 @@ served g sink start after ss ts cs serves run rest place divisor =
       rest = rest;
       place = place;
       divisor = divisor;
-      leading = λ can. leading (g.number (rest_of start)) (g.number (divisor_of start)) (place_of start) cs (small g start can) run;
+      sound = sound';
+      leading = λ can. leading (g.number (rest_of start)) (g.number (divisor_of start)) (place_of start) cs (small g start sound can) run;
       refused = λ none large. (one_expansion (g.number (divisor_of start)) (g.number (rest_of start)) (place_of start) cs run).1 none large;
     }
 
-pub served_none : {X S : Type 0} (g : counting.Ghosts X) (sink : Ghosts S) (start : Division X g) → Served g sink start [] [] start
-served_none g sink start =
-    served g sink start start [] [] [] (refl, refl) tt refl refl refl
+pub served_none : {X S : Type 0} (g : counting.Ghosts X) (sink : Ghosts S) (start : Division X) → SoundDivision g start → Served g sink start [] [] start
+served_none g sink start sound =
+    served g sink start start [] [] [] (refl, refl) tt refl refl refl sound sound
 
-pub served_more : {X S : Type 0} (g : counting.Ghosts X) (sink : Ghosts S) (start mid after : Division X g) (ss ts : List S) (s t : S) → Served g sink start ss ts mid → Steps g sink mid s t after → Served g sink start (ss ++ s ∷ []) (ts ++ t ∷ []) after
-served_more g sink start mid after ss ts s t before step =
+pub served_more : {X S : Type 0} (g : counting.Ghosts X) (sink : Ghosts S) (start mid after : Division X) (ss ts : List S) (s t : S) → SoundDivision g start → Served g sink start ss ts mid → Steps g sink mid s t after → Served g sink start (ss ++ s ∷ []) (ts ++ t ∷ []) after
+served_more g sink start mid after ss ts s t sound before step =
     let m : ℕ = g.number (rest_of start) in
     let p : ℕ = place_of start in
     let made : Made (g.number (divisor_of start)) (last_rest m before.calls) (last_place p before.calls) step.call =
@@ -64,10 +65,11 @@ served_more g sink start mid after ss ts s t before step =
     (last_rest_more m before.calls step.call ∙ step.rest)
     (last_place_more p before.calls step.call ∙ step.place)
     (step.divisor ∙ before.divisor)
+    sound step.sound
 
 -- One call, by its kind and by the divisions before and after.
-pub steps : {X S : Type 0} (g : counting.Ghosts X) (sink : Ghosts S) (before before' : Division X g) (s t : S) (after : Division X g) (kind : Kind) → before' ≡ before → sink.on s t → divisor_of after ≡ divisor_of before → Made (g.number (divisor_of before)) (g.number (rest_of before)) (place_of before) (called sink kind s t (g.number (rest_of after)) (place_of after)) → Steps g sink before' s t after
-steps g sink before before' s t after kind same on divisor made =
+pub steps : {X S : Type 0} (g : counting.Ghosts X) (sink : Ghosts S) (before before' : Division X) (s t : S) (after : Division X) (kind : Kind) → before' ≡ before → sink.on s t → divisor_of after ≡ divisor_of before → SoundDivision g after → Made (g.number (divisor_of before)) (g.number (rest_of before)) (place_of before) (called sink kind s t (g.number (rest_of after)) (place_of after)) → Steps g sink before' s t after
+steps g sink before before' s t after kind same on divisor sound made =
     subst (λ b. Steps g sink b s t after) (sym same) (record {
       call = called sink kind s t (g.number (rest_of after)) (place_of after);
       sees = record { step = refl; before = refl; after = refl; on = on };
@@ -75,12 +77,13 @@ steps g sink before before' s t after kind same on divisor made =
       rest = refl;
       place = refl;
       divisor = divisor;
+      sound = sound;
     })
 
 -- A call on the whole part.
-pub integrated : {X S : Type 0} (g : counting.Ghosts X) (sink : Ghosts S) (before : Division X g) (state : IntegralState X g) (s t : S) (after : Division X g) → before ≡ Whole state
+pub integrated : {X S : Type 0} (g : counting.Ghosts X) (sink : Ghosts S) (before : Division X) (state : IntegralState X) (s t : S) (after : Division X) → before ≡ Whole state
     → Integrates g sink state s t after → Steps g sink before s t after
 integrated g sink before state s t (Whole a) same went =
-    steps g sink (Whole state) before s t (Whole a) whole same went.3 went.1 went.2
+    steps g sink (Whole state) before s t (Whole a) whole same went.4 went.1 went.2 went.3
 integrated g sink before state s t (Fraction a) same went =
-    steps g sink (Whole state) before s t (Fraction a) whole same went.4 went.1 went.3
+    steps g sink (Whole state) before s t (Fraction a) whole same went.4 went.1 tt went.3

@@ -1,23 +1,18 @@
 // How far a division has come in its whole part.
-ghost use Rattle.division.specs.Sound.{Sound};
-
-use generic::integer::GenericInteger;
+ghost use Rattle.std.specs.Prelude.{◌≡◌};
 
 // Digits of the whole part are still to come.
 #[derive(Drop)]
-pub struct IntegralState<T: GenericInteger> {
+pub struct IntegralState<T> {
     pub(crate) rest: T,
     pub(crate) divisor: T,
     // What the next digit counts: ten to the place less one, times the divisor.
     pub(crate) unit: T,
     // How many digits of the whole part are still to come.
     pub(crate) place: u8,
-    pub ghost sound: { Sound (T.number rest) (T.number divisor) (T.number unit) place T.greatest },
 }
 
-impl<T: GenericInteger> IntegralState<T> {
-    ghost use Rattle.std.specs.Prelude.{◌≡◌};
-
+impl<T: Copy> IntegralState<T> {
     pub fn rest(&self) -> T
         ensures { result ≡ self.now.rest }
     {

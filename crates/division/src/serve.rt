@@ -1,6 +1,7 @@
 // Sinks served one after another by one division.
 ghost use Rattle.division.specs.Laws.{NoDigitLost};
-ghost use Rattle.division.specs.Serve.{Steps, Served, Leads, ServedWhole};
+ghost use Rattle.division.specs.Serve.{SoundDivision, Steps, Served, Leads, ServedWhole};
+ghost use Rattle.division.specs.Sound.{SoundState};
 ghost use Rattle.division.specs.declared.state.Division.TheVariants.{Fraction};
 
 use crate::fault::DivisionFault;
@@ -43,13 +44,17 @@ fn serve_opened<T: GenericInteger, S: DigitSink>(
     state: IntegralState<T>,
     sinks: &mut [S],
 ) -> Division<T>
+    requires { SoundState T.CountingNumber state }
     ensures { Leads T.CountingNumber S.DigitSink state sinks.old sinks.new result }
 {
     serve_on(Division::Whole { state }, sinks)
 }
 
-// One call on a division, wherever it stands.
+// One call on a division, wherever it stands. This and the next are inlined, so that a run of refused calls, or of sinks that want
+// nothing, doesn't move the division from call to call.
+#[inline(always)]
 fn next<T: GenericInteger, S: DigitSink>(division: Division<T>, sink: &mut S) -> Division<T>
+    requires { SoundDivision T.CountingNumber division }
     ensures { Steps T.CountingNumber S.DigitSink division sink.old sink.new result }
 {
     match division {
@@ -66,7 +71,9 @@ fn next<T: GenericInteger, S: DigitSink>(division: Division<T>, sink: &mut S) ->
 }
 
 // One call for each sink, in order, on the state that the one before handed back.
+#[inline(always)]
 fn serve_on<T: GenericInteger, S: DigitSink>(start: Division<T>, sinks: &mut [S]) -> Division<T>
+    requires { SoundDivision T.CountingNumber start }
     ensures { Served T.CountingNumber S.DigitSink start sinks.old sinks.new result }
 {
     let mut division = start;

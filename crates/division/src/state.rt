@@ -3,7 +3,6 @@ ghost use Rattle.std.specs.Prelude.{◌≡◌};
 
 use crate::fault::DivisionFault;
 pub use crate::integral_state::IntegralState;
-use generic::integer::GenericInteger;
 
 // A division in its fraction.
 #[derive(Drop)]
@@ -48,7 +47,7 @@ pub struct Refused<T> {
 
 // A division wherever it stands.
 #[derive(Drop)]
-pub enum Division<T: GenericInteger> {
+pub enum Division<T> {
     // Digits of the whole part are still to come.
     Whole { state: IntegralState<T> },
     // The whole part has ended.

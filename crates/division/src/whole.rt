@@ -1,5 +1,6 @@
 // The whole part of a division.
 ghost use Rattle.std.specs.Prelude.{◌≡◌, ◌-◌, ◌*◌, ◌^◌, ◌<◌, ◌≤◌};
+ghost use Rattle.division.specs.Sound.{SoundState};
 ghost use Rattle.division.specs.Whole.{Begun, Opens, Integrates, Follows};
 
 use crate::block::put_all;
@@ -44,7 +45,8 @@ fn begun<T: GenericInteger>(n: T, d: T) -> IntegralState<T>
 
 // The state after a digit, with what it leaves of the rest.
 fn after<T: GenericInteger>(state: IntegralState<T>, rest: T) -> Division<T>
-    requires { T.number rest < T.number state.unit }
+    requires sound { SoundState T.CountingNumber state }
+    requires rest { T.number rest < T.number state.unit }
     ensures { Follows T.CountingNumber state rest result }
 {
     let divisor = state.divisor;
@@ -73,6 +75,7 @@ pub fn divide_integral<T: GenericInteger, S: DigitSink>(
     state: IntegralState<T>,
     sink: &mut S,
 ) -> Division<T>
+    requires { SoundState T.CountingNumber state }
     ensures { Integrates T.CountingNumber S.DigitSink state sink.old sink.new result }
 {
     // One digit or two cost less one by one.
@@ -85,7 +88,8 @@ pub fn divide_integral<T: GenericInteger, S: DigitSink>(
 
 // Offers all digits of the whole part that are still to come, from one division, to a sink that takes as many.
 fn at_once<T: GenericInteger, S: DigitSink>(state: IntegralState<T>, sink: &mut S) -> Division<T>
-    requires { state.place ≤ S.left sink.old }
+    requires sound { SoundState T.CountingNumber state }
+    requires some { state.place ≤ S.left sink.old }
     ensures { Integrates T.CountingNumber S.DigitSink state sink.old sink.new result }
 {
     let (quotient, remainder) = state.rest.div_rem(state.divisor).unwrap();
@@ -100,6 +104,7 @@ fn at_once<T: GenericInteger, S: DigitSink>(state: IntegralState<T>, sink: &mut 
 
 // Offers the next digits of the whole part one by one until it ends or the sink wants no more.
 fn advance<T: GenericInteger, S: DigitSink>(first: IntegralState<T>, sink: &mut S) -> Division<T>
+    requires { SoundState T.CountingNumber first }
     ensures { Integrates T.CountingNumber S.DigitSink first sink.old sink.new result }
 {
     let mut state = first;

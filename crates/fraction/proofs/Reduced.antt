@@ -1,9 +1,8 @@
 -- Dividing by the greatest common divisor gives the lowest terms.
-use Rattle.std.proofs.Common.{◌≡◌, ℕ, zero, suc, ◌*◌, ◌/◌, ◌<◌, sym, ap, ◌∙◌, subst, mul_assoc, mul_comm, Some, None, Option, one-mul, zero-mul, arith}
+use Rattle.std.proofs.Common.{◌≡◌, ℕ, zero, suc, ◌*◌, ◌/◌, ◌<◌, refl, sym, ap, ◌∙◌, subst, mul_assoc, mul_comm, Some, None, Option, one-mul, zero-mul, arith}
 use Prim.Native.Nat.{◌∣◌}
 use native.Mathlib.Nat.{one-dvd, dvd_of_mul-dvd-mul_right, mul-dvd-mul_right, pos_of_dvd_of_pos, div-mul_cancel, zero-div}
 use Rattle.generic.specs.Divisors.{GreatestDivisor}
-use Rattle.generic.specs.declared.counting.CountingNumber.{Ghosts}
 use Rattle.fraction.specs.Lowest.{Lowest}
 use Rattle.fraction.specs.Ratios.{Keeps, Reduced}
 use Rattle.fraction.specs.declared.ratio.Ratio.{Ratio}
@@ -31,20 +30,25 @@ parts_lowest n d a b g en ed h common =
       };
     }
 
-quotients_lowest : (n d g : ℕ) → 0 < d → GreatestDivisor g n d → Lowest n d (n / g) (d / g)
+pub quotients_lowest : (n d g : ℕ) → 0 < d → GreatestDivisor g n d → Lowest n d (n / g) (d / g)
 quotients_lowest n d g h common =
     parts_lowest n d (n / g) (d / g) g (div-mul_cancel g common.left) (div-mul_cancel g common.right) h common
 
 nothing_left : (d g : ℕ) → g ∣ d → d / g ≡ 0 → d ≡ 0
 nothing_left d g p e = sym (div-mul_cancel g p) ∙ ap (λ x. x * g) e ∙ zero-mul g
 
+-- nothing divides but 0 what 0 divides
+pub nothing_divides : (d g : ℕ) → g ∣ d → (0 < g → ⊥) → d ≡ 0
+nothing_divides zero g p none = refl
+nothing_divides (suc d) g p none = absurd (none (pos_of_dvd_of_pos p (omega arith)))
+
 something_was : (d g : ℕ) → 0 < d / g → 0 < d
 something_was zero g h = absurd (omega (arith, zero-div g))
 something_was (suc d) g h = omega arith
 
 -- a and b are n and d over their greatest common divisor
-pub reduces : {X : Type 0} (t : Ghosts X) (n d a b : X) (g : ℕ) → GreatestDivisor g (t.number n) (t.number d) → t.number a ≡ t.number n / g → t.number b ≡ t.number d / g → (r : Option (Ratio X t)) → Keeps t a b r → Reduced t n d r
-reduces t n d a b g common ea eb None k = nothing_left (t.number d) g common.right (sym eb ∙ k)
-reduces t n d a b g common ea eb (Some r) k =
-    let some : 0 < t.number d = something_was (t.number d) g (subst (λ x. 0 < x) (ap t.number k.1 ∙ eb) r.positive) in
-    (some, simp (k.0, k.1, ea, eb) (quotients_lowest (t.number n) (t.number d) g some common))
+pub reduces : {X : Type 0} (number : X → ℕ) (n d a b : X) (g : ℕ) → GreatestDivisor g (number n) (number d) → number a ≡ number n / g → number b ≡ number d / g → (r : Option (Ratio X)) → Keeps number a b r → Reduced number n d r
+reduces number n d a b g common ea eb None k = nothing_left (number d) g common.right (sym eb ∙ k)
+reduces number n d a b g common ea eb (Some r) k =
+    let some : 0 < number d = something_was (number d) g (subst (λ x. 0 < x) eb k.0) in
+    (some, simp (k.1, k.2, ea, eb) (quotients_lowest (number n) (number d) g some common))

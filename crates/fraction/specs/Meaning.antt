@@ -1,6 +1,5 @@
 -- What a fraction means, whatever the type of its numbers.
-use Rattle.std.specs.Prelude.{◌≡◌, ℕ, Some, None, Option}
-use Rattle.generic.specs.declared.counting.CountingNumber.{Ghosts}
+use Rattle.std.specs.Prelude.{◌≡◌, ℕ, ◌<◌, Some, None, Option}
 use Rattle.generic.specs.declared.sign.Sign.{Sign}
 use Rattle.fraction.specs.declared.generic_fraction.GenericFraction.{GenericFraction}
 use Rattle.fraction.specs.declared.generic_fraction.GenericFraction.TheVariants.{Rational, Infinity, NaN}
@@ -11,10 +10,16 @@ pub data Meaning : Type 0 where
   infinity : Sign → Meaning
   nan : Meaning
 
-abbrev pub meant : {X : Type 0} {g : Ghosts X} → GenericFraction X g → Meaning
-meant {g = g} (Rational s q) = rational s (g.number q.numer) (g.number q.denom)
-meant (Infinity s) = infinity s
-meant NaN = nan
+abbrev pub meant : {X : Type 0} → (X → ℕ) → GenericFraction X → Meaning
+meant number (Rational s q) = rational s (number q.numer) (number q.denom)
+meant number (Infinity s) = infinity s
+meant number NaN = nan
+
+-- What every maker promises: the denominator of a rational is not 0.
+abbrev pub Sound : Meaning → Type 0
+Sound (rational s n d) = 0 < d
+Sound (infinity s) = Unit {0}
+Sound nan = Unit {0}
 
 abbrev pub numerator : Meaning → Option ℕ
 numerator (rational s n d) = Some n

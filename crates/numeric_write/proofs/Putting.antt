@@ -119,7 +119,7 @@ ended_number b s t after Q z f k on same none start first all some aligned is la
     put_number b after Q z (groups.held t) t.places some (ends b (laid_first b s t on same none)) (end_places s t f k on start first all ∙ aligned) is last
 
 -- A division whose remainder is below its divisor is not refused.
-not_refused : (f : DivisionFault) (d m : ℕ) → m < d → Cause f d m → ⊥
+pub not_refused : (f : DivisionFault) (d m : ℕ) → m < d → Cause f d m → ⊥
 not_refused ZeroDivisor d m lt c = omega arith
 not_refused RemainderNotBelow d m lt c = omega (arith, c.1)
 
@@ -130,11 +130,11 @@ accepted t sink m d a b (Err x) lt i = absurd (not_refused x.fault (t.number d) 
 -- THE WHOLE PART
 
 -- what going on with the whole part makes of a sink, whether it is paused or ends
-pub integrated : {X S : Type 0} (t : Ghosts X) (sink : DigitSink.Ghosts S) (s : IntegralState X t) (a b : S) (x : Division X t) → Integrates t sink s a b x
+pub integrated : {X S : Type 0} (t : Ghosts X) (sink : DigitSink.Ghosts S) (s : IntegralState X) (a b : S) (x : Division X) → Integrates t sink s a b x
     → (sink.taken b ≡ sink.taken a + min (sink.left a) s.place)
     × (sink.held b ≡ fed sink.step (sink.held a) (digits (t.number s.divisor) (t.number s.rest) s.place (min (sink.left a) s.place)))
     × sink.on a b
-integrated t sink s a b (Whole x) i = (i.2.1.taken, i.2.1.held, i.3)
+integrated t sink s a b (Whole x) i = (i.3.1.taken, i.3.1.held, i.4)
 integrated t sink s a b (Fraction x) i = (i.3.1.taken, i.3.1.held, i.4)
 
 -- without the zeros at its end a whole number is its front

@@ -10,7 +10,7 @@ use Rattle.numeric_write.specs.declared.plan.Plan.{Plan}
 use Rattle.numeric_write.specs.declared.plan.Plan.TheVariants.{Bare, Groups}
 
 -- The measure of a fraction, with as many decimals as the precision p gives.
-pub record Measures {X : Type 0} (g : Ghosts X) (ratio : Ratio X g) (p : ℕ) (m : Measured X g) : Type 0 where
+pub record Measures {X : Type 0} (g : Ghosts X) (ratio : Ratio X) (p : ℕ) (m : Measured X g) : Type 0 where
   pub rest : m.state.rest ≡ ratio.numer
   pub divisor : m.state.divisor ≡ ratio.denom
   pub scale : m.extent.scale ≡ scale_of (g.number ratio.numer) (g.number ratio.denom) p

@@ -27,6 +27,7 @@ pub(crate) fn measure<T: GenericInteger>(
     precision: Precision,
 ) -> Extent
     requires some { 0 < T.number ratio.numer }
+    requires denom { 0 < T.number ratio.denom }
     requires places { Width (T.number ratio.numer) (T.number ratio.denom) places }
     ensures scale { result.scale ≡ scale_of (T.number ratio.numer) (T.number ratio.denom) precision.digits }
     ensures sized { SizedBy (T.number ratio.numer) (T.number ratio.denom) places result }

@@ -1,6 +1,7 @@
 // A fraction that was opened and measured.
 ghost use Rattle.std.specs.Prelude.{◌≡◌, ◌%◌, ◌≤◌};
 ghost use Rattle.division.specs.Expansion.{coming};
+ghost use Rattle.division.specs.Sound.{SoundState};
 ghost use Rattle.division.specs.Whole.{Width};
 ghost use Rattle.std.proofs.Props.{props};
 ghost use Rattle.numeric_write.specs.Measure.{SizedBy};
@@ -19,6 +20,7 @@ use generic::integer::GenericInteger;
 pub(crate) struct Measured<T: GenericInteger> {
     pub(crate) state: IntegralState<T>,
     pub(crate) extent: Extent,
+    ghost sound: { SoundState T.CountingNumber state },
     ghost opened: { Width (T.number state.rest) (T.number state.divisor) state.place },
     ghost sized: { SizedBy (T.number state.rest) (T.number state.divisor) state.place extent } by { Prim.hlevel (props, Shaped-prop) },
     // As many decimals as the scale says do come.
@@ -32,7 +34,8 @@ impl<T: GenericInteger> Measured<T> {
 
     // Of a fraction that is not 0.
     pub(crate) fn new(ratio: Ratio<T>, precision: Precision) -> Measured<T>
-        requires { 0 < T.number ratio.numer }
+        requires some { 0 < T.number ratio.numer }
+        requires denom { 0 < T.number ratio.denom }
         ensures { Measures T.CountingNumber ratio precision.digits result }
     {
         let state = open(ratio.numer(), ratio.denom()).unwrap();

@@ -18,15 +18,16 @@ pub(crate) enum Plan<T: GenericInteger> {
 }
 
 impl<T: GenericInteger> Plan<T> {
-    ghost use Rattle.std.specs.Prelude.{◌≡◌, ◌≤◌, length};
-    ghost use Rattle.fraction.specs.Meaning.{meant, rational};
+    ghost use Rattle.std.specs.Prelude.{◌≡◌, ◌<◌, ◌≤◌, length};
+    ghost use Rattle.fraction.specs.Meaning.{meant, rational, Sound};
     ghost use Rattle.numeric.specs.Buffer.{bytes_needed, placed};
     ghost use Rattle.numeric.specs.Bytes.{package_bytes};
     ghost use Rattle.numeric.specs.Package.{written};
     ghost use Rattle.numeric_write.specs.Plans.{planned};
 
     pub(crate) fn new(source: &GenericFraction<T>, precision: Precision) -> Plan<T>
-        ensures { planned result ≡ written (meant source.now) precision.digits }
+        requires { Sound (meant T.number source.now) }
+        ensures { planned result ≡ written (meant T.number source.now) precision.digits }
     {
         match *source {
             GenericFraction::Rational(sign, ratio) => Plan::of_ratio(sign, ratio, precision),
@@ -37,6 +38,7 @@ impl<T: GenericInteger> Plan<T> {
 
     // A zero of either sign is plus.
     fn of_ratio(sign: Sign, ratio: Ratio<T>, precision: Precision) -> Plan<T>
+        requires { 0 < T.number ratio.denom }
         ensures { planned result ≡ written (rational sign (T.number ratio.numer) (T.number ratio.denom)) precision.digits }
     {
         if ratio.numer().is_zero() {

@@ -3,6 +3,7 @@ ghost use Rattle.std.specs.Prelude.{◌≡◌, ◌-◌, ◌*◌, ◌%◌, ◌<�
 ghost use Rattle.std.specs.List.{flat_map};
 ghost use Rattle.division.specs.Expansion.{coming, rest, Went};
 ghost use Rattle.division.specs.Sink.{tally};
+ghost use Rattle.division.specs.Sound.{SoundState};
 ghost use Rattle.division.specs.Whole.{Width};
 ghost use Rattle.numeric.specs.Buffer.{placed};
 ghost use Rattle.numeric.specs.Bytes.{word_bytes};
@@ -28,6 +29,7 @@ fn places_before(digits: u8) -> u8
 
 // The fraction of a division whose whole part is the lone 0, with so many zeros of it passed over.
 fn after_zeros<T: GenericInteger>(state: IntegralState<T>, passed: u8) -> DivisionState<T>
+    requires sound { SoundState T.CountingNumber state }
     requires opened { Width (T.number state.rest) (T.number state.divisor) state.place }
     requires below { T.number state.rest < T.number state.divisor }
     requires some { coming (T.number state.divisor) (T.number state.rest) passed ≡ passed }
@@ -46,7 +48,8 @@ fn fraction_after<T: GenericInteger, S: DigitSink>(
     state: IntegralState<T>,
     sink: &mut S,
 ) -> DivisionState<T>
-    requires { state.place ≤ S.left sink.old }
+    requires sound { SoundState T.CountingNumber state }
+    requires room { state.place ≤ S.left sink.old }
     ensures divisor { (result.divisor ≡ state.divisor) × (T.number result.remainder < T.number result.divisor) }
     ensures went { Went S.step (T.number state.divisor) (T.number state.rest) state.place state.place (tally S.DigitSink sink.old) (tally S.DigitSink sink.new) (T.number result.remainder) 0 }
     ensures on { S.on sink.old sink.new }

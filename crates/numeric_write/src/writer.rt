@@ -1,7 +1,7 @@
 // A fraction as a package in the caller's buffer.
 ghost use Rattle.std.specs.Prelude.{◌≡◌, ◌<◌, ◌≤◌, [], ◌∷◌, OnOk, OnErr, IfErr};
 ghost use Rattle.generic.specs.Refusals.{refuses};
-ghost use Rattle.fraction.specs.Meaning.{meant};
+ghost use Rattle.fraction.specs.Meaning.{meant, Sound};
 ghost use Rattle.numeric.specs.Buffer.{Outcome, free};
 ghost use Rattle.numeric.specs.Faithful.{WritingFaithful};
 ghost use Rattle.numeric.specs.Faults.{refusal};
@@ -22,7 +22,8 @@ pub fn fraction_to_sql_buf<T: GenericInteger>(
     used: &mut usize,
     precision: usize,
 ) -> Result<(), PackageFault>
-    ensures outcome { Outcome (written (meant source.now) precision) buffer.old used.old buffer.new used.new result }
+    requires { Sound (meant T.number source.now) }
+    ensures outcome { Outcome (written (meant T.number source.now) precision) buffer.old used.old buffer.new used.new result }
     ensures faithful { WritingFaithful }
 {
     let plan = Plan::new(source, Precision::in_force(precision));
@@ -40,7 +41,8 @@ pub fn to_sql<T: GenericInteger>(
     buffer: &mut [u8],
     used: &mut usize,
 ) -> Result<(), PackageFault>
-    ensures outcome { Outcome (written (meant source.now) 16383) buffer.old used.old buffer.new used.new result }
+    requires { Sound (meant T.number source.now) }
+    ensures outcome { Outcome (written (meant T.number source.now) 16383) buffer.old used.old buffer.new used.new result }
     ensures faithful { WritingFaithful }
 {
     fraction_to_sql_buf(source, buffer, used, PG_MAX_PRECISION)

@@ -1,13 +1,15 @@
 // What a record asks for.
-ghost use Rattle.std.specs.Prelude.{◌≡◌, ◌+◌, ◌≤◌, take, drop};
+ghost use Rattle.std.specs.Prelude.{◌≡◌, ◌+◌, ◌≤◌, take, drop, IfOk};
+ghost use Rattle.fraction.specs.Meaning.{meant, Sound};
 ghost use Rattle.record.specs.Bytes.{bytes_number};
 ghost use Rattle.record.specs.Kinds.{sign_of};
-ghost use Rattle.record.specs.Requests.{asked, request};
+ghost use Rattle.record.specs.Requests.{request};
 
 use crate::depth::depth_of;
 use crate::fault::RecordFault;
 use crate::kind::Kind;
 use fraction::generic_fraction::GenericFraction;
+use generic::counting::CountingNumber;
 use generic::sign::Sign;
 
 // A depth to pack, and how many fractional digits are asked for.
@@ -22,7 +24,8 @@ pub const RECORD_BYTES: usize = 20;
 
 // Bytes beyond the record are not looked at. The numerator is judged before the denominator.
 pub fn judge(bytes: &[u8]) -> Result<Request, RecordFault>
-    ensures { asked result ≡ request bytes.now }
+    ensures value { result ≡ request bytes.now }
+    ensures sound { IfOk result (λ r. Sound (meant ⟦<u64 as CountingNumber>⟧.number r.depth)) }
 {
     let record: &[u8; RECORD_BYTES] = bytes.first_chunk().ok_or(RecordFault::Short)?;
     let kind = Kind::try_from(record[0])?;

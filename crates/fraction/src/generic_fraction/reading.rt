@@ -10,7 +10,7 @@ use generic::sign::Sign;
 impl<T: GenericInteger> GenericFraction<T> {
     // None for an infinity and for NaN.
     pub fn numer(&self) -> Option<T>
-        ensures { option_map T.number result ≡ numerator (meant self.now) }
+        ensures { option_map T.number result ≡ numerator (meant T.number self.now) }
     {
         match *self {
             GenericFraction::Rational(_, ratio) => Some(ratio.numer()),
@@ -20,7 +20,7 @@ impl<T: GenericInteger> GenericFraction<T> {
 
     // None for an infinity and for NaN.
     pub fn denom(&self) -> Option<T>
-        ensures { option_map T.number result ≡ denominator (meant self.now) }
+        ensures { option_map T.number result ≡ denominator (meant T.number self.now) }
     {
         match *self {
             GenericFraction::Rational(_, ratio) => Some(ratio.denom()),
@@ -30,7 +30,7 @@ impl<T: GenericInteger> GenericFraction<T> {
 
     // None for NaN.
     pub fn sign(&self) -> Option<Sign>
-        ensures { result ≡ signed (meant self.now) }
+        ensures { result ≡ signed (meant T.number self.now) }
     {
         match *self {
             GenericFraction::Rational(sign, _) | GenericFraction::Infinity(sign) => Some(sign),
@@ -39,7 +39,7 @@ impl<T: GenericInteger> GenericFraction<T> {
     }
 
     pub fn is_zero(&self) -> bool
-        ensures { Decides result (Zero (meant self.now)) }
+        ensures { Decides result (Zero (meant T.number self.now)) }
     {
         match *self {
             GenericFraction::Rational(_, ratio) => ratio.numer().is_zero(),
@@ -48,13 +48,13 @@ impl<T: GenericInteger> GenericFraction<T> {
     }
 
     pub fn is_nan(&self) -> bool
-        ensures { Decides result (meant self.now ≡ nan) }
+        ensures { Decides result (meant T.number self.now ≡ nan) }
     {
         matches!(self, GenericFraction::NaN)
     }
 
     pub fn is_infinite(&self) -> bool
-        ensures { Decides result (Infinite (meant self.now)) }
+        ensures { Decides result (Infinite (meant T.number self.now)) }
     {
         matches!(self, GenericFraction::Infinity(_))
     }

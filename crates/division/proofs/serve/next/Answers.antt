@@ -10,9 +10,9 @@ returns-in-Whole g c =
 pub returns-in-Ok : goal.returns-in-Ok
 returns-in-Ok g c =
     let went = c.in-Ok.ensures.resumes in
-    steps _ _ (Fraction c.in-Fraction.state) _ _ _ (Fraction c.in-Ok.resumed.state) fraction c.in-Fraction.is went.2 went.0 went.1
+    steps _ _ (Fraction c.in-Fraction.state) _ _ _ (Fraction c.in-Ok.resumed.state) fraction c.in-Fraction.is went.2 went.0 tt went.1
 
 pub returns-in-Err : goal.returns-in-Err
 returns-in-Err g c =
     let went = c.in-Err.ensures.resumes in
-    steps _ _ (Fraction c.in-Fraction.state) _ _ _ (Fraction c.in-Err.refused.state) (refused c.in-Err.refused.fault) c.in-Fraction.is went.5 went.1 went.2
+    steps _ _ (Fraction c.in-Fraction.state) _ _ _ (Fraction c.in-Err.refused.state) (refused c.in-Err.refused.fault) c.in-Fraction.is went.5 went.1 tt went.2

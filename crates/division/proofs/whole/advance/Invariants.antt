@@ -1,5 +1,6 @@
 use Rattle.std.proofs.Common.{◌≡◌, min}
 use Rattle.division.specs.Sink.{tally}
+use Rattle.division.specs.Sound.{SoundState}
 use Rattle.division.proofs.Due.{Due}
 use Rattle.division.proofs.whole.advance.Given as goal
 
@@ -14,6 +15,7 @@ invariant-digits g l =
     (number l.state.rest) l.state.place (min (s.left now) l.state.place) (tally s now)
     × s.on was now
     × (l.state.divisor ≡ l.initial.state.divisor)
+    × SoundState g.T.CountingNumber l.state
 
 abbrev pub decreases-digits : goal.decreases-digits
 decreases-digits g l = l.state.place

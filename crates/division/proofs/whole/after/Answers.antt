@@ -1,7 +1,8 @@
+use Rattle.std.proofs.Common.{refl, arith}
 use Rattle.division.proofs.Places.{sound_down}
 use Rattle.division.proofs.whole.after.Goals as goal
 
-pub invariant_of-result : goal.invariant_of-result
-invariant_of-result g c =
+pub returns-else-state-eq1 : goal.returns-else-state-eq1
+returns-else-state-eq1 g c =
     let divided = rw (c.unwrap-unit.ensures, c.ten.ensures) at c.div_rem.ensures in
-    record { sound = sound_down _ _ _ _ _ _ _ c.args.state.sound c.if-state-eq1.false c.requires divided.1 }
+    (omega arith, refl, refl, refl, sound_down _ _ _ _ _ _ _ c.requires.sound c.if-state-eq1.false c.requires.rest divided.1)

@@ -1,4 +1,4 @@
-use Rattle.std.proofs.Common.{◌≡◌, ◌+◌, ◌-◌, ◌*◌, ◌<◌, ◌∙◌, arith}
+use Rattle.std.proofs.Common.{◌≡◌, ◌+◌, ◌-◌, ◌*◌, ◌<◌, refl, ◌∙◌, arith}
 use Rattle.division.proofs.Places.{begun_width, unit_up}
 use Rattle.division.proofs.Tests.{less, not_less, past}
 use Rattle.division.proofs.whole.begun.Given as given
@@ -30,8 +30,13 @@ below g c =
       | in_default w ↦ let over = past _ _ (rw c.ten-ten.ensures at w.in_default.ensures) in omega arith
     ]
 
-pub invariant_of-result : goal.invariant_of-result
-invariant_of-result g c =
+pub returns : goal.returns
+returns g c =
     let inv = c.widen.invariant in
     let width = begun_width _ _ _ _ inv.0 inv.1 (below g c) inv.2 in
-    record { sound = record { divisor = c.requires; place = inv.0; unit = inv.1; fits = g.met.T.CountingNumber.within c.widen.unit; rest = width.enough } }
+    record {
+      sound = record { divisor = c.requires; place = inv.0; unit = inv.1; fits = g.met.T.CountingNumber.within c.widen.unit; rest = width.enough };
+      rest = refl;
+      divisor = refl;
+      width = width;
+    }

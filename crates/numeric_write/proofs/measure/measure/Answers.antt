@@ -9,7 +9,7 @@ below_one-requires g c =
     let d : ℕ = g.T.CountingNumber.number c.args.ratio.denom in
     let divided = rw (c.numer-n.ensures, c.denom-d.ensures) at (rw c.unwrap-whole.ensures at c.div_rem.ensures) in
     let length = rw c.denom-d.ensures at c.fraction_length-scale.ensures in
-    let small : n < d = below_is n d c.args.ratio.positive (sym divided.1 ∙ c.is_zero.ensures.0 c.if-is_zero.true) in
+    let small : n < d = below_is n d c.requires.denom (sym divided.1 ∙ c.is_zero.ensures.0 c.if-is_zero.true) in
     let r : ℕ = g.T.CountingNumber.number c.unwrap-whole.result.1 in
     let rest : r ≡ n = divided.2 ∙ below_rest n d small in
     rw (c.numer-n.ensures, c.denom-d.ensures) record {
@@ -49,7 +49,7 @@ returns-then-scale-eq0 g c =
     let above : 0 < n / d = omega (arith, some, divided.1) in
     record {
       scale = same ∙ sym c.if-scale-eq0.true ∙ scale_from n d c.args.precision.digits r c.fraction_length-scale.result divided.2 length;
-      sized = subst (λ s. Sized n d w s is.shape is.groups is.weight) (sym same) (sized_quotient n d w is.groups is.shape is.weight (above_is n d c.args.ratio.positive above) above quotient);
+      sized = subst (λ s. Sized n d w s is.shape is.groups is.weight) (sym same) (sized_quotient n d w is.groups is.shape is.weight (above_is n d c.requires.denom above) above quotient);
     }
 
 pub mixed-requires : goal.mixed-requires
@@ -75,5 +75,5 @@ returns g c =
     record {
       scale = c.mixed.ensures.1 ∙ scale_from n d c.args.precision.digits r s divided.2 length;
       sized = sized_as n d w s c.mixed.result.shape c.mixed.result.scale c.mixed.result.groups c.mixed.result.weight c.mixed.ensures
-          (sized_mixed n d s w c.args.ratio.positive (λ z. omega arith) (above_is n d c.args.ratio.positive above) c.requires.places more);
+          (sized_mixed n d s w c.requires.denom (λ z. omega arith) (above_is n d c.requires.denom above) c.requires.places more);
     }

@@ -21,7 +21,7 @@ after_zeros-fraction-requires g c =
     let shaped = subst (Shaped n d m.state.place s m.extent.groups) c.requires.shape m.sized.shaped in
     let more = shaped.3 c.requires.some in
     let scale = sym (ap (λ x. coming d x s) (below_rest n d shaped.0)) ∙ m.reached in
-    record { opened = m.opened; below = shaped.0; some = coming_less d n s c.args.passed (omega (arith, more.0, scale)) }
+    record { sound = m.sound; opened = m.opened; below = shaped.0; some = coming_less d n s c.args.passed (omega (arith, more.0, scale)) }
 
 pub unwrap-resumed-requires : goal.unwrap-resumed-requires
 unwrap-resumed-requires g c =

@@ -15,7 +15,7 @@ use Rattle.numeric_write.proofs.writer.fraction_to_sql_buf.Goals as goal
 
 pub returns-in_err-check_room : goal.returns-in_err-check_room
 returns-in_err-check_room g c =
-    let m : Meaning = meant c.args.source.now in
+    let m : Meaning = meant g.T.CountingNumber.number c.args.source.now in
     let is = c.new-plan.ensures ∙ ap (written m) c.in_force.ensures ∙ written_in_force m c.args.precision in
     let b = c.args.buffer.now in
     let u : ℕ = c.args.used.now in
@@ -33,7 +33,7 @@ returns-in_err-check_room g c =
 
 pub returns : goal.returns
 returns g c =
-    let m : Meaning = meant c.args.source.now in
+    let m : Meaning = meant g.T.CountingNumber.number c.args.source.now in
     let is = c.new-plan.ensures ∙ ap (written m) c.in_force.ensures ∙ written_in_force m c.args.precision in
     let q = planned c.new-plan.result in
     let b = c.args.buffer.now in

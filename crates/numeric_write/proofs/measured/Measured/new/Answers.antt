@@ -10,6 +10,7 @@ invariant_of-result g c =
     let begun = rw (c.numer.ensures, c.denom.ensures) at (rw c.unwrap-state.ensures at c.open.ensures) in
     let scale = c.measure-extent.ensures.scale in
     record {
+      sound = begun.sound;
       opened = rw (begun.rest, begun.divisor) begun.width;
       sized = rw (begun.rest, begun.divisor) (rw c.place.ensures at c.measure-extent.ensures.sized);
       reached = rw (begun.rest, begun.divisor) (ap (coming d (n % d)) scale ∙ scale_again n d c.args.precision.digits ∙ sym scale);

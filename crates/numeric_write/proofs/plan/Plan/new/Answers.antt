@@ -7,7 +7,7 @@ use Rattle.numeric_write.proofs.plan.Plan.new.Goals as goal
 pub returns-in-Infinity : goal.returns-in-Infinity
 returns-in-Infinity g c =
     ap bare c.of_infinity.ensures ∙ sym (written_infinity c.in-Infinity.sign c.args.precision.digits)
-    ∙ ap (λ f. written (meant f) c.args.precision.digits) (sym c.in-Infinity.is)
+    ∙ ap (λ f. written (meant g.T.CountingNumber.number f) c.args.precision.digits) (sym c.in-Infinity.is)
 
 pub returns-in-NaN : goal.returns-in-NaN
-returns-in-NaN g c = sym (written_nan c.args.precision.digits) ∙ ap (λ f. written (meant f) c.args.precision.digits) (sym c.in-NaN.is)
+returns-in-NaN g c = sym (written_nan c.args.precision.digits) ∙ ap (λ f. written (meant g.T.CountingNumber.number f) c.args.precision.digits) (sym c.in-NaN.is)
