@@ -12,8 +12,6 @@ pub enum Failure {
     SeveralFiles,
     #[error("cannot open {0}: {1}")]
     Open(String, io::Error),
-    #[error("out of memory")]
-    Memory,
     #[error("cannot read the records: {0}")]
     Read(io::Error),
     #[error("cannot write the packages: {0}")]

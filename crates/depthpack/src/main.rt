@@ -56,7 +56,7 @@ enum Command {
 fn run(rt: &HostRuntime) -> Result<(), Failure> {
     let tally = match read_command(rt)? {
         Command::Help => return help(rt),
-        Command::PackInput => stream::pack_records(rt.alloc(), &mut rt.stdin(), rt.stdout())?,
+        Command::PackInput => stream::pack_records(&mut rt.stdin(), &mut rt.stdout())?,
         Command::PackFile(path) => pack_file(rt, path)?,
     };
     let _ = eprintln!(rt; "depthpack: {tally}");
@@ -69,7 +69,7 @@ fn help(rt: &HostRuntime) -> Result<(), Failure> {
 
 fn pack_file(rt: &HostRuntime, path: String) -> Result<Tally, Failure> {
     let mut file = fs::open(rt, path.as_str()).map_err(|error| Failure::Open(path, error))?;
-    stream::pack_records(rt.alloc(), &mut file, rt.stdout())
+    stream::pack_records(&mut file, &mut rt.stdout())
 }
 
 // What the arguments ask for.
