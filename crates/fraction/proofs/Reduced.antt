@@ -37,7 +37,7 @@ quotients_lowest n d g h common =
 nothing_left : (d g : ℕ) → g ∣ d → d / g ≡ 0 → d ≡ 0
 nothing_left d g p e = sym (div-mul_cancel g p) ∙ ap (λ x. x * g) e ∙ zero-mul g
 
--- nothing divides but 0 what 0 divides
+-- 0 divides nothing but 0
 pub nothing_divides : (d g : ℕ) → g ∣ d → (0 < g → ⊥) → d ≡ 0
 nothing_divides zero g p none = refl
 nothing_divides (suc d) g p none = absurd (none (pos_of_dvd_of_pos p (omega arith)))
