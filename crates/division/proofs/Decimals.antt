@@ -60,9 +60,12 @@ Decimal =
     → (m * 10 ^ (j - p) ≡ fed shifted 0 (digits d m p j) * (10 ^ (p - j) * d) + rest d m p j)
     × (rest d m p j < 10 ^ (p - j) * d)
 
+-- the equation alone, which holds of every m
+pub quotient : (d m p j : ℕ) → m * 10 ^ (j - p) ≡ fed shifted 0 (digits d m p j) * (10 ^ (p - j) * d) + rest d m p j
+quotient d m p j = rw (zero-mul (10 ^ p * d), zero-add m) at (forms d j m p 0)
+
 pub decimal : Decimal
-decimal d m p j h =
-    (rw (zero-mul (10 ^ p * d), zero-add m) at (forms d j m p 0), below d j m p h)
+decimal d m p j h = (quotient d m p j, below d j m p h)
 
 nonzero : (d r l : ℕ) → ((i : ℕ) → i < coming d (10 * suc r % d) l → 0 < rest d (10 * suc r % d) 0 i) → (i : ℕ) → i < coming d (suc r) (suc l) → 0 < rest d (suc r) 0 i
 nonzero d r l on zero h = omega arith

@@ -1,9 +1,10 @@
 -- The law over runs.
 use Rattle.std.proofs.Common.{◌≡◌, ℕ, zero, suc, ◌+◌, ◌-◌, ◌*◌, ◌/◌, ◌%◌, ◌^◌, ◌<◌, ◌≤◌, min, List, [], ◌∷◌, ◌++◌, length, sym, refl, ap, ◌∙◌, suc-add, one-mul, zero-add, arith}
+use Rattle.std.proofs.lemmas.List.{append-nil, append_assoc}
 use Rattle.division.specs.Expansion.{digits, rest, coming, Went}
 use Rattle.division.specs.Faults.{Cause}
 use Rattle.division.specs.Laws.{StandsStill}
-use Rattle.division.specs.Runs.{Kind, whole, fraction, refused, Call, MadeBy, Run, total, last_rest, last_place, Shared, Goes, EachGoes}
+use Rattle.division.specs.Runs.{Kind, whole, fraction, refused, Call, MadeBy, Made, Run, total, last_rest, last_place, Shared, Goes, EachGoes}
 use Rattle.division.specs.Tally.{Same, Took}
 use Rattle.division.specs.declared.fault.DivisionFault.{DivisionFault}
 use Rattle.division.specs.declared.fault.DivisionFault.TheVariants.{ZeroDivisor, RemainderNotBelow}
@@ -92,6 +93,54 @@ goes_on d m p (c ∷ cs) run h =
       state = on.state ∙ rw (one.state, at) (sym join_rest);
       place = on.place ∙ omega (arith, one.at);
     }
+
+-- What a run with one call more, the last, comes to.
+each_goes_more : (cs : List Call) (c : Call) → EachGoes cs → Goes c.kind → EachGoes (cs ++ c ∷ [])
+each_goes_more [] c each goes = (goes, tt)
+each_goes_more (c' ∷ cs) c each goes = (each.0, each_goes_more cs c each.1 goes)
+
+shared_more : (ds es : List ℕ) (cs : List Call) (c : Call) → Shared ds cs → Took c.step c.before es c.after → Shared (ds ++ es) (cs ++ c ∷ [])
+shared_more ds es [] c none took = (es, [], ap (λ l. l ++ es) none ∙ sym (append-nil es), took, refl)
+shared_more ds es (c' ∷ cs) c (xs, ys, cut, took', on) took =
+    (xs, ys ++ es, ap (λ l. l ++ es) cut ∙ append_assoc xs ys es, took', shared_more ys es cs c on took)
+
+total_more : (cs : List Call) (c : Call) → total (cs ++ c ∷ []) ≡ total cs + (c.after.taken - c.before.taken)
+total_more [] c = omega arith
+total_more (c' ∷ cs) c = omega (arith, total_more cs c)
+
+pub last_rest_more : (m : ℕ) (cs : List Call) (c : Call) → last_rest m (cs ++ c ∷ []) ≡ c.rest'
+last_rest_more m [] c = refl
+last_rest_more m (c' ∷ cs) c = last_rest_more c'.rest' cs c
+
+pub last_place_more : (p : ℕ) (cs : List Call) (c : Call) → last_place p (cs ++ c ∷ []) ≡ c.place'
+last_place_more p [] c = refl
+last_place_more p (c' ∷ cs) c = last_place_more c'.place' cs c
+
+-- A run that goes on, and comes to a rest below its whole, does so with one call more, whatever rest it began with.
+pub goes_more : (d m p : ℕ) (cs : List Call) (c : Call) → GoesOn d m p cs → last_rest m cs < 10 ^ (p - total cs) * d → Made d (last_rest m cs) (last_place p cs) c
+    → GoesOn d m p (cs ++ c ∷ []) × (c.rest' < 10 ^ (p - total (cs ++ c ∷ [])) * d)
+goes_more d m p cs c on small made =
+    let j : ℕ = total cs in
+    let k : ℕ = c.after.taken - c.before.taken in
+    let r : ℕ = last_rest m cs in
+    let q : ℕ = last_place p cs in
+    let here : r < 10 ^ q * d = rw on.place small in
+    let made = one_made c.kind d r q c here made in
+    let one = made.1 in
+    let count : total (cs ++ c ∷ []) ≡ j + k = total_more cs c in
+    let at : place p j ≡ q = place_is p j ∙ sym on.place in
+    let join : digits d m p (j + k) ≡ digits d m p j ++ digits d r q k = rw (on.state, sym at) (digits_join d m p j k) in
+    let join_rest : rest d m p (j + k) ≡ rest d r q k = rw (on.state, sym at) (rest_join d m p j k) in
+    let left : p - (j + k) ≡ q - k = omega (arith, on.place) in
+    let next : c.rest' < 10 ^ (q - k) * d = rw one.state (below d k r q here) in (
+      record {
+        kinds = each_goes_more cs c on.kinds made.0;
+        shared = rw (count, join) (shared_more (digits d m p j) (digits d r q k) cs c on.shared one.took);
+        state = last_rest_more m cs c ∙ one.state ∙ sym join_rest ∙ ap (rest d m p) (sym count);
+        place = last_place_more p cs c ∙ one.at ∙ sym left ∙ ap (λ n. p - n) (sym count);
+      },
+      rw (count, left) next,
+    )
 
 -- What one call comes to where the remainder is not below the divisor.
 record Still (d m : ℕ) (kind : Kind) (c : Call) : Type 0 where

@@ -21,6 +21,6 @@ loop-sink-preserved g c =
     let same : get_or before i x ≡ get_or sinks i x = sym (c.loop-sink.invariant.1 i x (omega arith)) in
     let olds : take (i + 1) before ≡ take i before ++ get_or sinks i x ∷ [] = take_more before i x here ∙ ap (λ e. take i before ++ e ∷ []) same in
     let news : take (i + 1) (set sinks i y) ≡ take i sinks ++ y ∷ [] = take_more_set sinks i y there in (
-      rw (olds, news) (served_more _ _ _ _ _ _ _ _ _ c.requires c.loop-sink.invariant.0 c.next-division.ensures),
+      rw (olds, news) (served_more _ _ _ _ _ _ _ _ _ c.loop-sink.invariant.0 c.next-division.ensures),
       λ k d h. let other : k ≢ i = omega arith in rw get_or-set_other (c.loop-sink.invariant.1 k d (omega arith)),
     )
