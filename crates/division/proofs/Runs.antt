@@ -76,71 +76,69 @@ one_made whole d m p c h made = (tt, one_went d m p (min c.before.left p) c made
 one_made fraction d m p c h made = (tt, rw made.0 (one_went d m 0 (coming d m c.before.left) c made.2))
 one_made (refused f) d m p c h made = absurd (no_cause f d m p made.0 h made.1)
 
+-- A call on a rest below its whole is a run that goes on.
+pub goes_one : (d m p : ℕ) (c : Call) → m < 10 ^ p * d → Made d m p c → GoesOn d m p (c ∷ [])
+goes_one d m p c h made =
+    let goes = one_made c.kind d m p c h made in
+    let one = goes.1 in
+    let e : total (c ∷ []) ≡ c.after.taken - c.before.taken = omega arith in
+    let ds : List ℕ = digits d m p (total (c ∷ [])) in
+    record {
+      kinds = (goes.0, tt);
+      shared = (ds, [], sym (append-nil ds), rw e one.took, refl);
+      state = rw e one.state;
+      place = rw e one.at;
+    }
+
+-- What a run of some calls and then more comes to.
+each_goes_more : (cs cs' : List Call) → EachGoes cs → EachGoes cs' → EachGoes (cs ++ cs')
+each_goes_more [] cs' each each' = each'
+each_goes_more (c ∷ cs) cs' each each' = (each.0, each_goes_more cs cs' each.1 each')
+
+shared_more : (ds ds' : List ℕ) (cs cs' : List Call) → Shared ds cs → Shared ds' cs' → Shared (ds ++ ds') (cs ++ cs')
+shared_more ds ds' [] cs' none on = rw none on
+shared_more ds ds' (c ∷ cs) cs' (xs, ys, cut, took, rest) on =
+    (xs, ys ++ ds', ap (λ l. l ++ ds') cut ∙ append_assoc xs ys ds', took, shared_more ys ds' cs cs' rest on)
+
+total_more : (cs cs' : List Call) → total (cs ++ cs') ≡ total cs + total cs'
+total_more [] cs' = omega arith
+total_more (c ∷ cs) cs' = omega (arith, total_more cs cs')
+
+pub last_rest_more : (m : ℕ) (cs cs' : List Call) → last_rest m (cs ++ cs') ≡ last_rest (last_rest m cs) cs'
+last_rest_more m [] cs' = refl
+last_rest_more m (c ∷ cs) cs' = last_rest_more c.rest' cs cs'
+
+pub last_place_more : (p : ℕ) (cs cs' : List Call) → last_place p (cs ++ cs') ≡ last_place (last_place p cs) cs'
+last_place_more p [] cs' = refl
+last_place_more p (c ∷ cs) cs' = last_place_more c.place' cs cs'
+
+-- One run that goes on, and one that goes on from where it ended, are one that goes on.
+pub goes_more : (d m p : ℕ) (cs cs' : List Call) → GoesOn d m p cs → GoesOn d (last_rest m cs) (last_place p cs) cs' → GoesOn d m p (cs ++ cs')
+goes_more d m p cs cs' here there =
+    let j : ℕ = total cs in
+    let k : ℕ = total cs' in
+    let r : ℕ = last_rest m cs in
+    let q : ℕ = last_place p cs in
+    let count : total (cs ++ cs') ≡ j + k = total_more cs cs' in
+    let at : place p j ≡ q = place_is p j ∙ sym here.place in
+    let join : digits d m p (j + k) ≡ digits d m p j ++ digits d r q k = rw (here.state, sym at) (digits_join d m p j k) in
+    let join_rest : rest d m p (j + k) ≡ rest d r q k = rw (here.state, sym at) (rest_join d m p j k) in
+    record {
+      kinds = each_goes_more cs cs' here.kinds there.kinds;
+      shared = rw (count, join) (shared_more (digits d m p j) (digits d r q k) cs cs' here.shared there.shared);
+      state = last_rest_more m cs cs' ∙ there.state ∙ sym join_rest ∙ ap (rest d m p) (sym count);
+      place = last_place_more p cs cs' ∙ there.place ∙ omega (arith, here.place, count);
+    }
+
+-- A run that goes on from a rest below its whole comes to a rest below its whole.
+pub stays_below : (d m p : ℕ) (cs : List Call) → GoesOn d m p cs → m < 10 ^ p * d → last_rest m cs < 10 ^ last_place p cs * d
+stays_below d m p cs on h = rw (on.state, on.place) (below d (total cs) m p h)
+
 goes_on : (d m p : ℕ) (cs : List Call) → Run d m p cs → m < 10 ^ p * d → GoesOn d m p cs
 goes_on d m p [] run h = record { kinds = tt; shared = refl; state = refl; place = omega arith }
 goes_on d m p (c ∷ cs) run h =
-    let k = c.after.taken - c.before.taken in
-    let made = one_made c.kind d m p c h run.0 in
-    let one = made.1 in
-    let next : c.rest' < 10 ^ c.place' * d = rw (one.state, one.at) (below d k m p h) in
-    let on = goes_on d c.rest' c.place' cs run.1 next in
-    let at : c.place' ≡ place p k = one.at ∙ sym (place_is p k) in
-    let join = digits_join d m p k (total cs) in
-    let join_rest = rest_join d m p k (total cs) in
-    record {
-      kinds = (made.0, on.kinds);
-      shared = (digits d m p k, digits d c.rest' c.place' (total cs), rw (one.state, at) join, one.took, on.shared);
-      state = on.state ∙ rw (one.state, at) (sym join_rest);
-      place = on.place ∙ omega (arith, one.at);
-    }
-
--- What a run with one call more, the last, comes to.
-each_goes_more : (cs : List Call) (c : Call) → EachGoes cs → Goes c.kind → EachGoes (cs ++ c ∷ [])
-each_goes_more [] c each goes = (goes, tt)
-each_goes_more (c' ∷ cs) c each goes = (each.0, each_goes_more cs c each.1 goes)
-
-shared_more : (ds es : List ℕ) (cs : List Call) (c : Call) → Shared ds cs → Took c.step c.before es c.after → Shared (ds ++ es) (cs ++ c ∷ [])
-shared_more ds es [] c none took = (es, [], ap (λ l. l ++ es) none ∙ sym (append-nil es), took, refl)
-shared_more ds es (c' ∷ cs) c (xs, ys, cut, took', on) took =
-    (xs, ys ++ es, ap (λ l. l ++ es) cut ∙ append_assoc xs ys es, took', shared_more ys es cs c on took)
-
-total_more : (cs : List Call) (c : Call) → total (cs ++ c ∷ []) ≡ total cs + (c.after.taken - c.before.taken)
-total_more [] c = omega arith
-total_more (c' ∷ cs) c = omega (arith, total_more cs c)
-
-pub last_rest_more : (m : ℕ) (cs : List Call) (c : Call) → last_rest m (cs ++ c ∷ []) ≡ c.rest'
-last_rest_more m [] c = refl
-last_rest_more m (c' ∷ cs) c = last_rest_more c'.rest' cs c
-
-pub last_place_more : (p : ℕ) (cs : List Call) (c : Call) → last_place p (cs ++ c ∷ []) ≡ c.place'
-last_place_more p [] c = refl
-last_place_more p (c' ∷ cs) c = last_place_more c'.place' cs c
-
--- A run that goes on, and comes to a rest below its whole, does so with one call more, whatever rest it began with.
-pub goes_more : (d m p : ℕ) (cs : List Call) (c : Call) → GoesOn d m p cs → last_rest m cs < 10 ^ (p - total cs) * d → Made d (last_rest m cs) (last_place p cs) c
-    → GoesOn d m p (cs ++ c ∷ []) × (c.rest' < 10 ^ (p - total (cs ++ c ∷ [])) * d)
-goes_more d m p cs c on small made =
-    let j : ℕ = total cs in
-    let k : ℕ = c.after.taken - c.before.taken in
-    let r : ℕ = last_rest m cs in
-    let q : ℕ = last_place p cs in
-    let here : r < 10 ^ q * d = rw on.place small in
-    let made = one_made c.kind d r q c here made in
-    let one = made.1 in
-    let count : total (cs ++ c ∷ []) ≡ j + k = total_more cs c in
-    let at : place p j ≡ q = place_is p j ∙ sym on.place in
-    let join : digits d m p (j + k) ≡ digits d m p j ++ digits d r q k = rw (on.state, sym at) (digits_join d m p j k) in
-    let join_rest : rest d m p (j + k) ≡ rest d r q k = rw (on.state, sym at) (rest_join d m p j k) in
-    let left : p - (j + k) ≡ q - k = omega (arith, on.place) in
-    let next : c.rest' < 10 ^ (q - k) * d = rw one.state (below d k r q here) in (
-      record {
-        kinds = each_goes_more cs c on.kinds made.0;
-        shared = rw (count, join) (shared_more (digits d m p j) (digits d r q k) cs c on.shared one.took);
-        state = last_rest_more m cs c ∙ one.state ∙ sym join_rest ∙ ap (rest d m p) (sym count);
-        place = last_place_more p cs c ∙ one.at ∙ sym left ∙ ap (λ n. p - n) (sym count);
-      },
-      rw (count, left) next,
-    )
+    let one = goes_one d m p c h run.0 in
+    goes_more d m p (c ∷ []) cs one (goes_on d c.rest' c.place' cs run.1 (stays_below d m p (c ∷ []) one h))
 
 -- What one call comes to where the remainder is not below the divisor.
 record Still (d m : ℕ) (kind : Kind) (c : Call) : Type 0 where

@@ -56,8 +56,8 @@ served_more g sink start mid after ss ts s t before step =
     served g sink start after (ss ++ s ∷ []) (ts ++ t ∷ []) (before.calls ++ step.call ∷ [])
     (serves_more sink before.calls ss ts step.call s t before.serves step.sees)
     (run_more (g.number (divisor_of start)) m p before.calls step.call before.run made)
-    (last_rest_more m before.calls step.call ∙ step.rest)
-    (last_place_more p before.calls step.call ∙ step.place)
+    (last_rest_more m before.calls (step.call ∷ []) ∙ step.rest)
+    (last_place_more p before.calls (step.call ∷ []) ∙ step.place)
     (step.divisor ∙ before.divisor)
     step.sound
     (λ can. leading_more m (g.number (divisor_of start)) p before.calls step.call (before.leading can) made)
